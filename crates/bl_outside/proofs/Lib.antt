@@ -1,0 +1,5 @@
+pub mod Finite
+pub mod Moments
+mod Kept
+mod Names
+mod Stopped

@@ -1,0 +1,9 @@
+pub mod Counts
+pub mod Streams
+pub mod Folders
+pub mod Disks
+pub mod Plans
+pub mod MemoryFolders
+pub mod MemoryDisks
+pub mod MemoryLaws
+pub mod Stops
