@@ -1,0 +1,4 @@
+pub mod Order
+pub mod Valid
+pub mod Cells
+pub mod Json

@@ -1,0 +1,43 @@
+-- What a valid thing is: the ranges of its parts.
+use Rattle.std.specs.Prelude.{ℕ, ◌≤◌, ◌<◌, ◌^◌, ℤ, pos, ◌≤ℤ◌, negsuc, List, length}
+use Rattle.std.specs.Str.{IsUtf8}
+use Rattle.bl_value.specs.declared.value.Value.{Value}
+use Rattle.bl_value.specs.declared.value.Value.TheVariants.{Bool, Byte, Short, Int, Long, Str, Date}
+use Rattle.bl_value.specs.declared.change.Change.{Change}
+use Rattle.bl_value.specs.declared.change.Change.TheVariants.{AddLabel, AddEdge, AddValue, RemoveValue}
+
+-- an id or a label
+pub record IsId (text : List ℕ) : Type 0 where
+  pub utf8 : IsUtf8 text
+  pub some : 1 ≤ length text
+  pub short : length text ≤ 1024
+
+-- a property's key, and a column's name
+pub record IsKey (text : List ℕ) : Type 0 where
+  pub utf8 : IsUtf8 text
+  pub some : 1 ≤ length text
+  pub short : length text ≤ 256
+
+-- the text of a value
+pub record IsShortText (text : List ℕ) : Type 0 where
+  pub utf8 : IsUtf8 text
+  pub short : length text < 2 ^ 32
+
+-- a date lies in the years 0000 to 9999
+abbrev pub IsDate : ℤ → Type 0
+IsDate seconds = (negsuc 62167219199 ≤ℤ seconds) × (seconds ≤ℤ pos 253402300799)
+
+abbrev pub IsValue : Value → Type 0
+IsValue (Str text) = IsShortText text
+IsValue (Date seconds) = IsDate seconds
+IsValue (Bool b) = Unit {0}
+IsValue (Byte n) = Unit {0}
+IsValue (Short n) = Unit {0}
+IsValue (Int n) = Unit {0}
+IsValue (Long n) = Unit {0}
+
+abbrev pub IsChange : Change → Type 0
+IsChange (AddLabel id label) = IsId id × IsId label
+IsChange (AddEdge id label from to) = IsId id × IsId label × IsId from × IsId to
+IsChange (AddValue side id key value) = IsId id × IsKey key × IsValue value
+IsChange (RemoveValue side id key value) = IsId id × IsKey key × IsValue value

@@ -1,0 +1,37 @@
+// Values as JSON (RFC 8259).
+ghost use Rattle.std.specs.Prelude.{◌≡◌, IfOk};
+ghost use Rattle.serde_json.specs.View.{view};
+ghost use Rattle.bl_value.specs.Valid.{IsValue};
+ghost use Rattle.bl_value.specs.Json.{IsText, value_data, value_text};
+
+use crate::Value;
+use bl_outside::{NoMemory, Text};
+use serde_json::Value as Json;
+use std::alloc::Global;
+
+/// The JSON text of a value, compact as `serde_json` writes it.
+pub fn json_value(alloc: Global, value: &Value) -> Result<Text, NoMemory>
+    requires valid { IsValue value.now }
+    requires text { IsText value.now }
+    ensures { IfOk result (λ json. json ≡ value_text value.now) }
+{
+    let json = json_of(alloc, value)?;
+    Ok(Text::from_vec(json.to_vec(alloc)?))
+}
+
+/// The value as JSON, for a text that it stands in.
+pub fn json_of(alloc: Global, value: &Value) -> Result<Json, NoMemory>
+    requires valid { IsValue value.now }
+    requires text { IsText value.now }
+    ensures { IfOk result (λ json. view json ≡ value_data value.now) }
+{
+    match value {
+        Value::Str(text) => {
+            let Ok(text) = str::from_utf8(text.as_slice()) else {
+                unreachable!();
+            };
+            Ok(Json::try_from_str(alloc, text)?)
+        }
+        _ => unreachable!(),
+    }
+}
