@@ -13,7 +13,7 @@
 mod value_type;
 mod value;
 mod cell;
-mod json;
+mod json_text;
 mod column;
 mod log_code;
 mod row;
@@ -22,7 +22,7 @@ mod change;
 pub use value_type::ValueType;
 pub use value::{Value, compare};
 pub use cell::{CellRefusal, read_cell};
-pub use json::{json_of, json_value};
+pub use json_text::{json_of, json_value};
 pub use column::{Column, ColumnUse, Columns, Side};
 pub use log_code::LogCode;
 pub use row::{DigestRow, Property, Row};

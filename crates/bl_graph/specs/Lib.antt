@@ -1,0 +1,3 @@
+pub mod Graph
+pub mod Replay
+pub mod Admission

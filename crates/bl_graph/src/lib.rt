@@ -1,0 +1,13 @@
+//! The property graph: what a row does to it, and the change applied.
+//!
+//! [`Graph::admit`] says what a row does to a graph: a list of changes, nothing (a duplicate), or a
+//! refusal with its code. [`Graph::apply`] makes one change, and [`Graph::fits`] is the test that it
+//! may be made. Contracts see the graph as the finite maps of its definition.
+//!
+//! Words of the contracts: `specs/Graph` (the maps), `specs/Replay` (changes applied),
+//! `specs/Admission` (what a row does). This crate stands on `bl_value`.
+#![tactic(auto)]
+
+mod verdict;
+
+pub use verdict::Verdict;
