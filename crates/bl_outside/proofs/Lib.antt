@@ -1,5 +1,5 @@
 pub mod Finite
 pub mod Moments
 mod Kept
-mod Names
+pub mod Names
 mod Stopped

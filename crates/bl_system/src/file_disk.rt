@@ -1,0 +1,156 @@
+// A real file as a disk. It tells nothing, and keeps no model that a proof knows.
+ghost use Rattle.std.specs.Prelude.{◌≤◌, IfOk, length};
+
+use bl_outside::{Disk, Outside, Text, counted};
+use std::alloc::Global;
+use std::fs::{File, Files, OpenFile, OpenOptions, create_dir_all};
+use std::io::{ErrorKind, Read, Seek, SeekFrom, Write};
+
+/// One file of a store. Where it couldn't be opened, each of its calls fails.
+#[derive(Drop)]
+pub struct FileDisk<R: Files> {
+    alloc: Global,
+    file: Option<R::File>,
+    faults: u64,
+}
+
+// Makes the store where it is missing, and opens the file.
+fn open_in<R: Files>(system: &R, store: &str, path: &str) -> Option<R::File> {
+    create_dir_all(system, store).ok()?;
+    let file = OpenOptions::new()
+        .read(true)
+        .write(true)
+        .create(true)
+        .open(system, path)
+        .ok()?;
+    // The file's name is kept by its folder.
+    let folder = File::open(system, store).ok()?;
+    folder.sync_all().ok()?;
+    Some(file)
+}
+
+impl<R: Files> FileDisk<R> {
+    pub fn open(system: &R, alloc: Global, store: &str, path: &str) -> FileDisk<R> {
+        FileDisk {
+            alloc,
+            file: open_in(system, store, path),
+            faults: 0,
+        }
+    }
+}
+
+// Fills the room as far as the file goes.
+fn fill<F: Read>(file: &mut F, room: &mut [u8]) -> Result<usize, Outside>
+    ensures { IfOk result (λ n. n ≤ length room.old) }
+{
+    let mut filled = 0;
+    for _ in 0..u64::MAX {
+        if filled == room.len() {
+            break;
+        }
+        match file.read(&mut room[filled..]) {
+            Ok(0) => break,
+            Ok(n) => filled += n,
+            Err(e) if e.kind() == ErrorKind::Interrupted => {}
+            Err(_) => return Err(Outside::Failed),
+        }
+    }
+    Ok(filled)
+}
+
+// Up to so many bytes from the place on. The room is no larger than what the file has there.
+pub fn read_part<F: Read + Seek + OpenFile>(
+    alloc: Global,
+    file: &mut F,
+    at: u64,
+    most: u32,
+) -> Result<Text, Outside>
+    ensures { IfOk result (λ bytes. length bytes ≤ most) }
+{
+    let count = size_of(file)?.saturating_sub(at).min(most as u64);
+    let mut bytes = Vec::new(alloc);
+    if bytes.resize(count as usize, 0).is_err() {
+        return Err(Outside::NoMemory);
+    }
+    if file.seek(SeekFrom::Start(at)).is_err() {
+        return Err(Outside::Failed);
+    }
+    let filled = fill(file, &mut bytes)?;
+    bytes.truncate(filled);
+    Ok(Text::from_vec(bytes))
+}
+
+impl<R: Files> Disk for FileDisk<R> {
+    ghost use Rattle.std.specs.Prelude.{None};
+
+    ghost seen = { λ _. None };
+
+    ghost honest = { λ _. ⊥ };
+
+    ghost may_leave = { λ _ c. ⊥ };
+
+    ghost moment = { λ _. 0 };
+
+    ghost left_since = { λ _ t c. ⊥ };
+
+    ghost faults = { λ d. d.faults };
+
+    ghost counts_now = { λ d t c le left. left };
+
+    ghost only_now = { λ d c left. left };
+
+    ghost seen_is_image = { λ d c honest seen. honest };
+
+    fn size(&mut self) -> Result<u64, Outside> {
+        let answer = match &self.file {
+            Some(file) => size_of(file),
+            None => Err(Outside::Failed),
+        };
+        counted(&mut self.faults, answer)
+    }
+
+    fn read_at(&mut self, at: u64, most: u32) -> Result<Text, Outside> {
+        let answer = match &mut self.file {
+            Some(file) => read_part(self.alloc, file, at, most),
+            None => Err(Outside::Failed),
+        };
+        counted(&mut self.faults, answer)
+    }
+
+    fn write_at(&mut self, at: u64, bytes: &[u8]) -> Result<(), Outside> {
+        let answer = match &mut self.file {
+            Some(file) => write_part(file, at, bytes),
+            None => Err(Outside::Failed),
+        };
+        counted(&mut self.faults, answer)
+    }
+
+    fn sync(&mut self) -> Result<(), Outside> {
+        let answer = match &self.file {
+            Some(file) => sync_file(file),
+            None => Err(Outside::Failed),
+        };
+        counted(&mut self.faults, answer)
+    }
+}
+
+fn size_of<F: OpenFile>(file: &F) -> Result<u64, Outside> {
+    match file.metadata() {
+        Ok(data) => Ok(data.len()),
+        Err(_) => Err(Outside::Failed),
+    }
+}
+
+fn write_part<F: Write + Seek>(file: &mut F, at: u64, bytes: &[u8]) -> Result<(), Outside> {
+    if file.seek(SeekFrom::Start(at)).is_err() || file.write_all(bytes).is_err() {
+        return Err(Outside::Failed);
+    }
+    Ok(())
+}
+
+fn sync_file<F: OpenFile>(file: &F) -> Result<(), Outside> {
+    match file.sync_all() {
+        Ok(()) => Ok(()),
+        Err(_) => Err(Outside::Failed),
+    }
+}
