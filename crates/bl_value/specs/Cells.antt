@@ -1,5 +1,5 @@
 -- What a cell and an array cell mean (Neptune User Guide, "Gremlin load data format").
-use Rattle.std.specs.Prelude.{◌≡◌, ◌==◌, ℕ, Bool, true, false, if◌then◌else◌, List, [], ◌∷◌, ◌++◌, Result, Ok, Err}
+use Rattle.std.specs.Prelude.{◌≡◌, ◌==◌, ℕ, Bool, true, false, if◌then◌else◌, List, [], ◌∷◌, ◌++◌, reverse, Result, Ok, Err}
 use Rattle.std.specs.Str.{IsUtf8}
 use Rattle.bl_value.specs.declared.value.Value.{Value}
 use Rattle.bl_value.specs.declared.value.Value.TheVariants.{Str}
@@ -50,3 +50,12 @@ items_from begun (piece ∷ rest) =
 -- the items of an array cell, empty and repeated ones among them
 abbrev pub items : List ℕ → List (List ℕ)
 items cell = items_from [] (pieces cell)
+
+-- without the spaces in front
+abbrev pub without_spaces_in_front : List ℕ → List ℕ
+without_spaces_in_front [] = []
+without_spaces_in_front (byte ∷ rest) = if byte == 32 then without_spaces_in_front rest else byte ∷ rest
+
+-- without the ASCII spaces at both ends
+abbrev pub without_spaces : List ℕ → List ℕ
+without_spaces cell = reverse (without_spaces_in_front (reverse (without_spaces_in_front cell)))

@@ -1,6 +1,6 @@
 // Cells of a file.
-ghost use Rattle.std.specs.Prelude.{◌≡◌};
-ghost use Rattle.bl_value.specs.Cells.{ReadsText};
+ghost use Rattle.std.specs.Prelude.{◌≡◌, reverse};
+ghost use Rattle.bl_value.specs.Cells.{ReadsText, without_spaces, without_spaces_in_front};
 ghost use Rattle.bl_value.specs.declared.cell.CellRefusal.TheVariants.{NoMemory as out_of_memory};
 
 use crate::{Value, ValueType};
@@ -43,4 +43,31 @@ fn read_text(alloc: Global, cell: &[u8]) -> Result<Value, CellRefusal>
         return Err(CellRefusal::NotUtf8);
     }
     Ok(Value::Str(Text::copy_of(alloc, cell)?))
+}
+
+/// A cell without the ASCII spaces at both its ends.
+pub fn without_spaces(cell: &[u8]) -> &[u8]
+    ensures { result.now ≡ without_spaces cell.now }
+{
+    without_spaces_behind(without_spaces_in_front(cell))
+}
+
+fn without_spaces_in_front(cell: &[u8]) -> &[u8]
+    ensures { result.now ≡ without_spaces_in_front cell.now }
+{
+    let mut rest = cell;
+    while let [32, tail @ ..] = rest {
+        rest = tail;
+    }
+    rest
+}
+
+fn without_spaces_behind(cell: &[u8]) -> &[u8]
+    ensures { result.now ≡ reverse (without_spaces_in_front (reverse cell.now)) }
+{
+    let mut rest = cell;
+    while let [head @ .., 32] = rest {
+        rest = head;
+    }
+    rest
 }

@@ -21,7 +21,7 @@ mod change;
 
 pub use value_type::ValueType;
 pub use value::{Value, compare};
-pub use cell::{CellRefusal, read_cell};
+pub use cell::{CellRefusal, read_cell, without_spaces};
 pub use json_text::{json_of, json_value};
 pub use column::{Column, ColumnUse, Columns, Side};
 pub use log_code::LogCode;

@@ -1,0 +1,11 @@
+pub mod Sources
+pub mod Words
+pub mod LoadIds
+pub mod File
+pub mod Contents
+pub mod RecordReaders
+pub mod Headers
+pub mod Rows
+pub mod Loads
+pub mod Outputs
+pub mod Runs

@@ -1,0 +1,85 @@
+-- What a load of one plain vertex file comes to: one fold over the rows of the file.
+use Rattle.std.specs.Prelude.{ℕ, ◌+◌, nat_le, nat_lt, nat_eq, Bool, true, false, not, ◌&&◌, ◌||◌, if◌then◌else◌, codes, List, [], ◌∷◌, ◌++◌, length, None, Some}
+use Rattle.std.specs.declared.option.Option.{Option}
+use Rattle.std.specs.Option.{option_map, option_and_then}
+use Rattle.std.specs.List.{starts_with, ends_with}
+use Rattle.std.specs.FinMap.{get}
+use Rattle.bl_outside.specs.Folders.{Files}
+use Rattle.bl_value.specs.declared.change.Change.{Change}
+use Rattle.bl_value.specs.declared.column.ColumnUse.{ColumnUse}
+use Rattle.bl_value.specs.declared.row.Row.{Row}
+use Rattle.bl_graph.specs.Graph.{Graph, empty}
+use Rattle.bl_graph.specs.Replay.{after}
+use Rattle.bl_graph.specs.Admission.{admit}
+use Rattle.bl_graph.specs.declared.verdict.Verdict.{Verdict}
+use Rattle.bl_graph.specs.declared.verdict.Verdict.TheVariants.{Changes, Duplicate, Refused}
+use Rattle.bl_cli.specs.Contents.{contents}
+use Rattle.bl_cli.specs.Headers.{plain_columns}
+use Rattle.bl_cli.specs.Rows.{plain_row}
+
+abbrev pub changes_in : Verdict → List Change
+changes_in (Changes changes) = changes
+changes_in Duplicate = []
+changes_in (Refused code column) = []
+
+abbrev pub duplicates_in : Verdict → ℕ
+duplicates_in (Changes changes) = 0
+duplicates_in Duplicate = 1
+duplicates_in (Refused code column) = 0
+
+-- what one row does to a graph
+abbrev pub row_changes : Graph → Row → List Change
+row_changes graph row = changes_in (admit graph false row)
+
+-- the graph after the rows, each admitted in turn
+abbrev pub graph_after : Graph → List Row → Graph
+graph_after graph [] = graph
+graph_after graph (row ∷ rows) = graph_after (after graph (row_changes graph row)) rows
+
+-- all changes that the rows make
+abbrev pub changes_from : Graph → List Row → List Change
+changes_from graph [] = []
+changes_from graph (row ∷ rows) = row_changes graph row ++ changes_from (after graph (row_changes graph row)) rows
+
+-- how many of the rows change nothing
+abbrev pub duplicates_from : Graph → List Row → ℕ
+duplicates_from graph [] = 0
+duplicates_from graph (row ∷ rows) = duplicates_in (admit graph false row) + duplicates_from (after graph (row_changes graph row)) rows
+
+-- what a load leaves: its graph, its changes and its totals
+pub record Loaded : Type 0 where
+  pub graph : Graph
+  pub changes : List Change
+  pub records : ℕ
+  pub duplicates : ℕ
+
+abbrev pub load_of : List Row → Loaded
+load_of rows =
+    record { graph = graph_after empty rows; changes = changes_from empty rows; records = length rows; duplicates = duplicates_from empty rows }
+
+-- the rows of plain records
+abbrev pub plain_rows : List ColumnUse → List (List (List ℕ)) → Option (List Row)
+plain_rows uses [] = Some []
+plain_rows uses (record_ ∷ records) = option_and_then (λ row. option_map (λ rows. row ∷ rows) (plain_rows uses records)) (plain_row uses record_)
+
+-- the rows of a file whose header and records are plain, with at most 1,000 records behind the header
+abbrev pub file_rows : List (List (List ℕ)) → Option (List Row)
+file_rows [] = None
+file_rows (header ∷ records) =
+    if nat_le (length records) 1000 then option_and_then (λ uses. plain_rows uses records) (plain_columns header) else None
+
+-- a name that says that the file is compressed
+abbrev pub is_compressed : List ℕ → Bool
+is_compressed path = ends_with nat_eq path (codes ".gz") || ends_with nat_eq path (codes ".bz2")
+
+abbrev pub mark : List ℕ
+mark = 239 ∷ (187 ∷ (191 ∷ []))
+
+-- the load of a file's bytes, where it is one that is loaded so far
+abbrev pub bytes_load : List ℕ → Option Loaded
+bytes_load bytes =
+    if nat_le (length bytes) 16384 && not (starts_with nat_eq bytes mark) then option_map load_of (file_rows (contents bytes)) else None
+
+-- the load of the file at a path, where there is one and it is loaded so far
+abbrev pub file_load : Files → List ℕ → Option Loaded
+file_load files path = if is_compressed path then None else option_and_then bytes_load (get files path)
