@@ -1,2 +1,6 @@
 pub mod CsvRecords
 pub mod Readers
+mod Parts
+mod Utf8
+mod PlainCells
+mod Soundness

@@ -7,7 +7,7 @@ use Rattle.csv.specs.Reading.{default_config, reader_state, records_next, source
 use Rattle.csv.specs.declared.parser.State.{State}
 use Rattle.csv.specs.declared.parser.State.TheVariants.{StartRecord}
 use Rattle.bl_cli.specs.Contents.{Fields, contents}
-use Rattle.bl_cli.specs.RecordReaders.{GivesNext, HasLeft, HasLeftBy, Held, StandsAt, Takes, records_after}
+use Rattle.bl_cli.specs.RecordReaders.{GivesNext, HasLeft, HasLeftBy, Held, Takes, TakesNext, records_after}
 use Rattle.bl_cli.specs.declared.records.RecordReader.{RecordReader}
 use Rattle.bl_cli.proofs.CsvRecords.{all-first}
 
@@ -19,10 +19,6 @@ contents-start bytes = refl
 after-first : (state : State) (left : List ℕ) → records_after state left ≡ records_next records_after (next_record default_config state [] [] left)
 unfolding records_after
 after-first state left = all-first default_config state left
-
--- what reading a record does to a reader
-abbrev Reads : Held → Bool → Fields → Held → Type 0
-Reads before found row after = (state : State) (left : List ℕ) → StandsAt before state left → Takes (next_record default_config state [] [] left) found row after
 
 none_left : (next : Option Read) (found : Bool) (row : Fields) (reader : Held) → Takes next found row reader → found ≡ false → records_next records_after next ≡ []
 none_left None found row reader took none = refl
@@ -37,7 +33,7 @@ gives-ended it rows ended has =
 
 -- a reader that found no record had none left
 pub gives-none : (it after : RecordReader) (rows : List Fields) (found : Bool) (row : Fields) → it.ended ≡ false → HasLeft it rows
-    → Reads it.reader found row after.reader → found ≡ false → after.ended ≡ true → GivesNext rows after None
+    → TakesNext it.reader found row after.reader → found ≡ false → after.ended ≡ true → GivesNext rows after None
 unfolding HasLeft
 gives-none it after rows found row open_still has reads none ended =
     let (state, left, stands, is) = rw open_still at has in
@@ -51,7 +47,7 @@ others_left (Some next) found row reader took some = (records_after next.1 next.
 
 -- a reader that found a record has the others left
 pub gives-some : (it after : RecordReader) (rows : List Fields) (found : Bool) (row fields : Fields) → it.ended ≡ false → HasLeft it rows
-    → Reads it.reader found row after.reader → found ≡ true → after.ended ≡ false → fields ≡ row → GivesNext rows after (Some fields)
+    → TakesNext it.reader found row after.reader → found ≡ true → after.ended ≡ false → fields ≡ row → GivesNext rows after (Some fields)
 unfolding HasLeft
 gives-some it after rows found row fields open_still has reads some open_after same =
     let (state, left, stands, is) = rw open_still at has in

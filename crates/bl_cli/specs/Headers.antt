@@ -1,6 +1,6 @@
 -- The header of a plain vertex file: `~id`, then `~label` or nothing, then text properties, each as
 -- `name` or `name:String` (Neptune User Guide, "Gremlin load data format").
-use Rattle.std.specs.Prelude.{ℕ, ◌==◌, ◌+◌, ◌-◌, nat_le, nat_eq, Bool, true, false, not, ◌&&◌, ◌||◌, if◌then◌else◌, codes, List, [], ◌∷◌, ◌++◌, length, map, slice_index, None, Some}
+use Rattle.std.specs.Prelude.{ℕ, ◌==◌, ◌+◌, ◌-◌, nat_le, nat_eq, Bool, true, false, not, ◌&&◌, ◌||◌, if◌then◌else◌, codes, List, [], ◌∷◌, ◌++◌, length, map, drop, slice_index, None, Some}
 use Rattle.std.specs.declared.option.Option.{Option}
 use Rattle.std.specs.Option.{option_map, option_and_then}
 use Rattle.std.specs.List.{list_any, before_first}
@@ -14,18 +14,37 @@ use Rattle.bl_value.specs.declared.column.ColumnUse.TheVariants.{Id, Label, Prop
 abbrev pub text_column : List ℕ → ColumnUse
 text_column name = Property (record { name = name; kind = Str; single = false; many = false })
 
+-- 1 to 256 bytes
+abbrev pub has_name_length : List ℕ → Bool
+has_name_length name = not (length name == 0) && nat_le (length name) 256
+
+-- `~` or a space
+abbrev pub is_barred_in_front : ℕ → Bool
+is_barred_in_front byte = byte == 126 || byte == 32
+
+-- no `~` in front, and no space at an end
+abbrev pub has_plain_ends : List ℕ → Bool
+has_plain_ends name = not (is_barred_in_front (slice_index name 0)) && not (slice_index name (length name - 1) == 32)
+
+-- `:` or `\`
+abbrev pub is_divider : ℕ → Bool
+is_divider byte = byte == 58 || byte == 92
+
 -- A plain name has 1 to 256 bytes of UTF-8, no `:` and no `\`, no `~` in front and no space at an end.
 abbrev pub is_plain_name : List ℕ → Bool
-is_plain_name name =
-    nat_le 1 (length name) && (nat_le (length name) 256 && (not (list_any (λ byte. byte == 58 || byte == 92) name)
-    && (not (slice_index name 0 == 126) && (not (slice_index name 0 == 32) && (not (slice_index name (length name - 1) == 32) && is_utf8 name)))))
+is_plain_name name = has_name_length name && (has_plain_ends name && (not (list_any is_divider name) && is_utf8 name))
+
+-- what stands before the first colon
+abbrev pub name_in : List ℕ → List ℕ
+name_in field = before_first (λ byte. byte == 58) field
+
+-- what stands from the first colon on: nothing, or `:String`
+abbrev pub is_plain_type : List ℕ → Bool
+is_plain_type text = length text == 0 || pointwise nat_eq text (codes ":String")
 
 -- the name of a property field
 abbrev pub plain_name : List ℕ → Option (List ℕ)
-plain_name field =
-    if is_plain_name (before_first (λ byte. byte == 58) field)
-        && (pointwise nat_eq field (before_first (λ byte. byte == 58) field) || pointwise nat_eq field (before_first (λ byte. byte == 58) field ++ codes ":String"))
-    then Some (before_first (λ byte. byte == 58) field) else None
+plain_name field = if is_plain_name (name_in field) && is_plain_type (drop (length (name_in field)) field) then Some (name_in field) else None
 
 -- the name stands among those to its left
 abbrev pub is_repeated : List (List ℕ) → List ℕ → Bool

@@ -4,7 +4,7 @@ use Rattle.std.specs.Io.Cursor.{cursor_remaining}
 use Rattle.std.specs.declared.alloc.Global.{Global}
 use Rattle.std.specs.declared.io.Cursor.{Cursor}
 use Rattle.std.specs.declared.vec.Vec.{Vec}
-use Rattle.csv.specs.Machine.{Read}
+use Rattle.csv.specs.Machine.{Read, next_record}
 use Rattle.csv.specs.Reading.{Ready, default_config, is_flexible, reader_config, reader_state, reader_trim, records_from, source_of}
 use Rattle.csv.specs.declared.parser.State.{State}
 use Rattle.csv.specs.declared.reader.Reader.{Reader}
@@ -29,6 +29,11 @@ pub record StandsAt (reader : Held) (state : State) (left : List ℕ) : Type 0 w
 abbrev pub Takes : Option Read → Bool → Fields → Held → Type 0
 Takes None found row after = found ≡ false
 Takes (Some next) found row after = (found ≡ true) × (row ≡ next.0) × StandsAt after next.1 next.2
+
+-- The same wherever the reader stands before it.
+abbrev pub TakesNext : Held → Bool → Fields → Held → Type 0
+TakesNext before found row after =
+    (state : State) (left : List ℕ) → StandsAt before state left → Takes (next_record default_config state [] [] left) found row after
 
 -- The records of these bytes, from a state on.
 unfoldable pub records_after : State → List ℕ → List Fields

@@ -49,7 +49,7 @@ property_in number _ cell = []
 
 -- the properties of the columns from this number on
 abbrev pub properties_from : ℕ → List ColumnUse → List (List ℕ) → List RowProperty
-properties_from number (use ∷ uses) (field ∷ fields) = property_in number use field ++ properties_from (number + 1) uses fields
+properties_from number (column ∷ uses) (field ∷ fields) = property_in number column field ++ properties_from (number + 1) uses fields
 properties_from number _ _ = []
 
 abbrev pub properties_of : List ColumnUse → List (List ℕ) → List RowProperty
@@ -77,19 +77,23 @@ pub record Fault : Type 0 where
   pub code : LogCode
   pub column : ℕ
 
-abbrev pub fault_if : Bool → ℕ → LogCode → ℕ → List Fault
-fault_if broken rule code column = if broken then record { rule = rule; code = code; column = column } ∷ [] else []
+abbrev pub fault_unless : Bool → ℕ → LogCode → ℕ → List Fault
+fault_unless kept rule code column = if kept then [] else record { rule = rule; code = code; column = column } ∷ []
+
+-- an id or a label of at most 1,024 bytes
+abbrev pub is_short : List ℕ → Bool
+is_short text = nat_le (length text) 1024
 
 -- all faults of a record
 abbrev pub faults : List ColumnUse → List (List ℕ) → List Fault
 faults uses fields =
-    fault_if (not (length fields == length uses)) 1 ColumnCount 0
-    ++ (fault_if (not (list_all is_utf8 fields)) 2 NotUtf8 0
-    ++ (fault_if (nat_lt 1048576 (sum_by length fields)) 3 RecordTooLarge 0
-    ++ (fault_if (length (id_of uses fields) == 0) 4 MissingId (id_column_from 1 uses)
-    ++ (fault_if (nat_lt 1024 (length (id_of uses fields))) 5 IdTooLong (id_column_from 1 uses)
-    ++ (fault_if (list_any (λ label. nat_lt 1024 (length label)) (labels_of uses fields)) 5 IdTooLong (label_column_from 1 uses)
-    ++ fault_if (nat_lt 4096 (value_count (labels_of uses fields) (properties_of uses fields))) 7 TooManyValues 0)))))
+    fault_unless (length fields == length uses) 1 ColumnCount 0
+    ++ (fault_unless (list_all is_utf8 fields) 2 NotUtf8 0
+    ++ (fault_unless (nat_le (sum_by length fields) 1048576) 3 RecordTooLarge 0
+    ++ (fault_unless (not (length (id_of uses fields) == 0)) 4 MissingId (id_column_from 1 uses)
+    ++ (fault_unless (is_short (id_of uses fields)) 5 IdTooLong (id_column_from 1 uses)
+    ++ (fault_unless (list_all is_short (labels_of uses fields)) 5 IdTooLong (label_column_from 1 uses)
+    ++ fault_unless (nat_le (value_count (labels_of uses fields) (properties_of uses fields)) 4096) 7 TooManyValues 0)))))
 
 -- by rule, then by column
 abbrev pub is_before : Fault → Fault → Bool
@@ -113,9 +117,13 @@ label_cell (Label ∷ uses) (field ∷ fields) = field
 label_cell (_ ∷ uses) (field ∷ fields) = label_cell uses fields
 label_cell _ _ = []
 
--- no semicolon and no backslash
+-- a semicolon or a backslash
+abbrev pub is_array_byte : ℕ → Bool
+is_array_byte byte = byte == 59 || byte == 92
+
+-- none of them
 abbrev pub is_plain_cell : List ℕ → Bool
-is_plain_cell cell = not (list_any (λ byte. byte == 59 || byte == 92) cell)
+is_plain_cell cell = not (list_any is_array_byte cell)
 
 abbrev pub unless_bad : Row → Option Row
 unless_bad (Bad code column) = None
@@ -125,3 +133,10 @@ unless_bad (Edge id label from to properties) = Some (Edge id label from to prop
 -- the row of a record without a fault, whose label cell holds one label
 abbrev pub plain_row : List ColumnUse → List (List ℕ) → Option Row
 plain_row uses fields = if is_plain_cell (label_cell uses fields) then unless_bad (row uses fields) else None
+
+-- as many fields as columns, all UTF-8, and not too large
+abbrev pub is_whole : List ColumnUse → List (List ℕ) → Bool
+is_whole uses fields = length fields == length uses && (list_all is_utf8 fields && nat_le (sum_by length fields) 1048576)
+
+abbrev pub is_id : List ℕ → Bool
+is_id id = not (length id == 0) && is_short id

@@ -4,7 +4,8 @@ use Rattle.std.specs.declared.option.Option.{Option}
 use Rattle.bl_outside.specs.Folders.{Files}
 use Rattle.bl_graph.specs.Graph.{empty}
 use Rattle.bl_graph.specs.Replay.{after}
-use Rattle.bl_cli.specs.Words.{Asked, asked}
+use Rattle.bl_cli.specs.declared.words.Asked.{Asked}
+use Rattle.bl_cli.specs.Words.{asked}
 use Rattle.bl_cli.specs.Loads.{Loaded, file_load}
 use Rattle.bl_cli.specs.Outputs.{load_output, failed_line}
 

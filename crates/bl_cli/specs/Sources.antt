@@ -1,5 +1,5 @@
 -- The source of a load: the text `s3://`, a bucket, then nothing, or a slash and a key.
-use Rattle.std.specs.Prelude.{ℕ, ◌==◌, ◌+◌, nat_le, nat_eq, Bool, true, false, not, ◌&&◌, ◌||◌, if◌then◌else◌, codes, List, [], ◌∷◌, ◌++◌, length, take, drop, slice_index, None, Some}
+use Rattle.std.specs.Prelude.{ℕ, ◌==◌, ◌+◌, ◌-◌, nat_le, nat_eq, Bool, true, false, not, ◌&&◌, ◌||◌, if◌then◌else◌, codes, List, [], ◌∷◌, ◌++◌, length, take, drop, slice_index, None, Some}
 use Rattle.std.specs.declared.option.Option.{Option}
 use Rattle.std.specs.List.{list_all, list_any, starts_with, ends_with, before_first, after_first}
 use Rattle.std.specs.Str.{is_utf8}
@@ -14,9 +14,13 @@ is_letter_or_digit byte = (nat_le 97 byte && nat_le byte 122) || (nat_le 48 byte
 abbrev pub is_bucket_byte : ℕ → Bool
 is_bucket_byte byte = is_letter_or_digit byte || (byte == 46 || byte == 45)
 
+-- The first byte is a letter or a digit.
+abbrev pub begins_well : List ℕ → Bool
+begins_well bucket = is_letter_or_digit (slice_index bucket 0)
+
 -- A bucket has 1 to 63 of the characters a to z, 0 to 9, `.` and `-`, and begins with a letter or digit.
 abbrev pub is_bucket : List ℕ → Bool
-is_bucket bucket = nat_le (length bucket) 63 && (is_letter_or_digit (slice_index bucket 0) && list_all is_bucket_byte bucket)
+is_bucket bucket = nat_le (length bucket) 63 && (begins_well bucket && list_all is_bucket_byte bucket)
 
 -- the parts of a text between its slashes, the bytes of the first of which may have begun
 abbrev pub parts_from : List ℕ → List ℕ → List (List ℕ)

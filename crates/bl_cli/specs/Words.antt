@@ -3,12 +3,8 @@ use Rattle.std.specs.Prelude.{ℕ, nat_eq, Bool, true, false, if◌then◌else�
 use Rattle.std.specs.declared.option.Option.{Option}
 use Rattle.std.specs.Option.{option_map}
 use Rattle.std.specs.Cmp.Lexicographic.{pointwise}
+use Rattle.bl_cli.specs.declared.words.Asked.{Asked}
 use Rattle.bl_cli.specs.Sources.{path_of}
-
--- a load of the file at this path, whose changes are printed or not
-pub record Asked : Type 0 where
-  pub path : List ℕ
-  pub changes : Bool
 
 abbrev pub is_word : List ℕ → List ℕ → Bool
 is_word word text = pointwise nat_eq word text

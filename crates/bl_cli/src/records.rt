@@ -1,18 +1,16 @@
 // The records of a CSV file, one after another.
-ghost use Rattle.std.specs.Prelude.{◌≡◌, ℕ, List as Items, [], IfOk};
-ghost use Rattle.csv.specs.Machine.{next_record};
-ghost use Rattle.csv.specs.Reading.{default_config};
+ghost use Rattle.std.specs.Prelude.{◌≡◌, List as Items, IfOk};
 ghost use Rattle.csv.specs.Records.{fields_of};
-ghost use Rattle.csv.specs.declared.parser.State.{State};
 ghost use Rattle.bl_cli.specs.Contents.{Fields, contents};
-ghost use Rattle.bl_cli.specs.RecordReaders.{GivesNext, HasLeft, StandsAt, Takes};
+ghost use Rattle.bl_cli.specs.RecordReaders.{GivesNext, HasLeft, TakesNext};
 
 use bl_outside::{List, NoMemory, Text};
 use csv::{ByteRecord, Reader, ReaderBuilder};
 use std::alloc::Global;
 use std::io::Cursor;
 
-/// A reader of the records of a file, whose bytes it owns.
+/// A reader of the records of a file, whose bytes it owns. It is some 16 KiB large, so keep it in
+/// one place.
 #[derive(Drop)]
 pub struct RecordReader {
     alloc: Global,
@@ -24,8 +22,7 @@ pub struct RecordReader {
 // The next record into the row, and whether there was one. Bytes in memory are always read, so an
 // error is want of memory.
 fn take_record(reader: &mut Reader<Cursor<Vec<u8>>>, row: &mut ByteRecord) -> Result<bool, NoMemory>
-    ensures { (state : State) (left : Items ℕ) → StandsAt reader.old state left
-        → IfOk result (λ found. Takes (next_record default_config state [] [] left) found (fields_of row.new) reader.new) }
+    ensures { IfOk result (λ found. TakesNext reader.old found (fields_of row.new) reader.new) }
 {
     reader.read_byte_record(row).map_err(|_| NoMemory)
 }
@@ -67,8 +64,8 @@ impl RecordReader {
         if self.ended {
             return Ok(None);
         }
-        if !take_record(&mut self.reader, &mut self.row)? {
-            self.ended = true;
+        self.ended = !take_record(&mut self.reader, &mut self.row)?;
+        if self.ended {
             return Ok(None);
         }
         Ok(Some(fields_of_row(self.alloc, &self.row)?))

@@ -1,4 +1,4 @@
-use Rattle.std.proofs.Common.{◌≡◌, ◌++◌, ◌∷◌, ℕ, List, length}
+use Rattle.std.proofs.Common.{◌≡◌, ◌++◌, List, length}
 use Rattle.bl_cli.specs.Contents.{Fields, contents}
 use Rattle.bl_cli.specs.RecordReaders.{HasLeft}
 use Rattle.bl_cli.proofs.Readers.{records_left}

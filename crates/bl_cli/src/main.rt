@@ -1,0 +1,16 @@
+//! The command line, `bl ROOT STORE COMMAND ..`.
+#![tactic(auto)]
+
+mod bytes;
+mod source;
+mod words;
+mod load_id;
+mod file;
+mod records;
+mod header;
+mod rows;
+
+#[cfg(test)]
+mod file_tests;
+
+fn main() {}
