@@ -16,10 +16,13 @@ with_values keys key values = if set.len values == 0 then map.remove keys key el
 abbrev pub with_keys : Properties → List ℕ → ByText Values → Properties
 with_keys all id keys = if map.len keys == 0 then map.remove all id else map.insert all id keys
 
+-- other values at one key of one vertex or edge
+abbrev pub with_values_in : Properties → List ℕ → List ℕ → Values → Properties
+with_values_in all id key values = with_keys all id (with_values (keys_in all id) key values)
+
 -- the graph with other values at one key
 abbrev pub with_values_at : Graph → Side → List ℕ → List ℕ → Values → Graph
-with_values_at graph side id key values =
-    with_properties graph side (with_keys (properties graph side) id (with_values (keys_in (properties graph side) id) key values))
+with_values_at graph side id key values = with_properties graph side (with_values_in (properties graph side) id key values)
 
 -- the graph after one change
 abbrev pub after_one : Graph → Change → Graph

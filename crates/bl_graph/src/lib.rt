@@ -9,5 +9,24 @@
 #![tactic(auto)]
 
 mod verdict;
+mod text_set;
+mod value_set;
+mod keyed_values;
+mod owned_values;
+mod vertices;
+mod edges;
+mod graph;
+mod admission;
 
+use edges::Edges;
+use keyed_values::KeyedValues;
+use owned_values::OwnedValues;
+use text_set::TextSet;
+use value_set::ValueSet;
+use vertices::Vertices;
+
+pub use graph::Graph;
 pub use verdict::Verdict;
+
+#[cfg(test)]
+mod tests;
