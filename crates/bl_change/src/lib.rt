@@ -6,5 +6,7 @@
 #![tactic(auto)]
 
 mod event;
+mod event_text;
 
 pub use event::Event;
+pub use event_text::print_event;
