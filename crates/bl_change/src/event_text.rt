@@ -125,7 +125,13 @@ fn property_json(
         Side::Vertex => "vp",
         Side::Edge => "ep",
     };
-    element_json(alloc, kind, str_of(id), str_of(key), value_json(alloc, value)?)
+    element_json(
+        alloc,
+        kind,
+        str_of(id),
+        str_of(key),
+        value_json(alloc, value)?,
+    )
 }
 
 fn element_json(
@@ -140,13 +146,7 @@ fn element_json(
     Ok(json!(in alloc; {"id": id, "key": key, "type": kind, "value": value})?)
 }
 
-fn edge_json(
-    alloc: Global,
-    id: &str,
-    from: &str,
-    to: &str,
-    label: Json,
-) -> Result<Json, NoMemory>
+fn edge_json(alloc: Global, id: &str, from: &str, to: &str, label: Json) -> Result<Json, NoMemory>
     ensures { IfOk result (λ json. view json ≡ edge_data id.now from.now to.now (view label)) }
 {
     let mut members = Map::new(alloc);

@@ -10,3 +10,6 @@ mod event_text;
 
 pub use event::Event;
 pub use event_text::print_event;
+
+#[cfg(test)]
+mod tests;
