@@ -28,5 +28,5 @@ pub use log_code::LogCode;
 pub use row::{DigestRow, Property, Row};
 pub use change::{Change, copy_changes};
 
-
-
+#[cfg(test)]
+mod tests;
