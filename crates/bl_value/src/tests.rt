@@ -2,7 +2,9 @@
 ghost use Rattle.std.specs.Prelude.{IfOk};
 ghost use Rattle.bl_value.specs.Valid.{IsShortText};
 
-use crate::{CellRefusal, Change, Side, Value, ValueType, compare, copy_changes, json_value, read_cell};
+use crate::{
+    CellRefusal, Change, Side, Value, ValueType, compare, copy_changes, json_value, read_cell,
+};
 use bl_outside::{List, NoMemory, Text};
 use std::alloc::Global;
 use std::cmp::Ordering;
