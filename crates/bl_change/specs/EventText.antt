@@ -3,7 +3,7 @@
 use Rattle.std.specs.Prelude.{ℕ, Bool, true, false, codes, List}
 use Rattle.serde_json.specs.Data.{Data, boolean, number, unsigned, string, object, Members, no_members, member}
 use Rattle.serde_json.specs.Written.{compact_text}
-use Rattle.bl_value.specs.Json.{value_data}
+use Rattle.bl_value.specs.Json.{IsText, value_data}
 use Rattle.bl_value.specs.declared.value.Value.{Value}
 use Rattle.bl_value.specs.declared.value.Value.TheVariants.{Bool as a_bool, Byte, Short, Int, Long, Str, Date}
 use Rattle.bl_value.specs.declared.column.Side.{Side}
@@ -32,21 +32,21 @@ property_type Vertex = codes "vp"
 property_type Edge = codes "ep"
 
 -- a record about an element that isn't an edge's own
-abbrev pub element_data : List ℕ → List ℕ → List ℕ → Value → Data
+abbrev pub element_data : List ℕ → List ℕ → List ℕ → Data → Data
 element_data kind id key value =
-    object (member (codes "id") (string id) (member (codes "key") (string key) (member (codes "type") (string kind) (member (codes "value") (typed_data value) no_members))))
+    object (member (codes "id") (string id) (member (codes "key") (string key) (member (codes "type") (string kind) (member (codes "value") value no_members))))
 
 -- an edge, with its ends
-abbrev pub edge_data : List ℕ → List ℕ → List ℕ → List ℕ → Data
-edge_data id label from to =
+abbrev pub edge_data : List ℕ → List ℕ → List ℕ → Data → Data
+edge_data id from to label =
     object (member (codes "from") (string from) (member (codes "id") (string id) (member (codes "key") (string (codes "label"))
-    (member (codes "to") (string to) (member (codes "type") (string (codes "e")) (member (codes "value") (typed_data (Str label)) no_members))))))
+    (member (codes "to") (string to) (member (codes "type") (string (codes "e")) (member (codes "value") label no_members))))))
 
 abbrev pub change_data : Change → Data
-change_data (AddLabel id label) = element_data (codes "vl") id (codes "label") (Str label)
-change_data (AddEdge id label from to) = edge_data id label from to
-change_data (AddValue side id key value) = element_data (property_type side) id key value
-change_data (RemoveValue side id key value) = element_data (property_type side) id key value
+change_data (AddLabel id label) = element_data (codes "vl") id (codes "label") (typed_data (Str label))
+change_data (AddEdge id label from to) = edge_data id from to (typed_data (Str label))
+change_data (AddValue side id key value) = element_data (property_type side) id key (typed_data value)
+change_data (RemoveValue side id key value) = element_data (property_type side) id key (typed_data value)
 
 abbrev pub op_name : Change → List ℕ
 op_name (AddLabel id label) = codes "ADD"
@@ -59,11 +59,25 @@ abbrev pub with_last : Bool → Members → Members
 with_last true members = member (codes "isLastOp") (boolean true) members
 with_last false members = members
 
+-- where an event stands in the stream
+abbrev pub place_data : ℕ → ℕ → Data
+place_data commit op = object (member (codes "commitNum") (number (unsigned commit)) (member (codes "opNum") (number (unsigned op)) no_members))
+
+abbrev pub record_data : ℕ → Data → Data → Bool → List ℕ → Data
+record_data moment change place last op =
+    object (member (codes "commitTimestamp") (number (unsigned moment)) (member (codes "data") change (member (codes "eventId") place
+    (with_last last (member (codes "op") (string op) no_members)))))
+
 abbrev pub event_data : Event → Data
 event_data event =
-    object (member (codes "commitTimestamp") (number (unsigned event.moment)) (member (codes "data") (change_data event.change)
-    (member (codes "eventId") (object (member (codes "commitNum") (number (unsigned event.commit)) (member (codes "opNum") (number (unsigned event.op)) no_members)))
-    (with_last event.last (member (codes "op") (string (op_name event.change)) no_members)))))
+    record_data event.moment (change_data event.change) (place_data event.commit event.op) event.last (op_name event.change)
 
 abbrev pub event_text : Event → List ℕ
 event_text event = compact_text (event_data event)
+
+-- The value that a change has is a text, the one kind that is printed so far.
+abbrev pub HasTextValue : Change → Type 0
+HasTextValue (AddLabel id label) = Unit {0}
+HasTextValue (AddEdge id label from to) = Unit {0}
+HasTextValue (AddValue side id key value) = IsText value
+HasTextValue (RemoveValue side id key value) = IsText value

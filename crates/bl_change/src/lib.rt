@@ -6,5 +6,10 @@
 #![tactic(auto)]
 
 mod event;
+mod event_text;
 
 pub use event::Event;
+pub use event_text::print_event;
+
+#[cfg(test)]
+mod tests;

@@ -1,8 +1,11 @@
+// Each call once, and what no clause says.
 ghost use Rattle.std.specs.Prelude.{IfOk};
 ghost use Rattle.std.specs.Str.{IsUtf8};
 
 use crate::{
-    Disk, Faults, Fill, Folder, List, Listing, MemoryDisk, MemoryFolder, NoMemory, Text,
+    Clock, Digest, Disk, Disks, Failed, Faults, Fill, FixedClock, Folder, List, Listing,
+    MemoryDisk, MemoryFolder, MemorySink, MemorySource, NoMemory, Outside, Piece, Sink, Source,
+    Text,
 };
 use std::alloc::Global;
 
@@ -82,4 +85,123 @@ fn a_stop_leaves_old_new_or_ones(rt: HostRuntime) {
     assert!(rt; new.as_slice() == b"bbacc".as_slice());
     let ones = stops(rt.alloc(), Fill::Ones).expect(&rt, "memory");
     assert!(rt; ones.as_slice() == b"bba\xff\xff".as_slice());
+}
+
+// What is read at a place of a file, in words where it is no bytes.
+fn piece(alloc: Global, path: &str, at: u64) -> Result<Text, NoMemory> {
+    let mut files = folder(alloc, Faults::none(alloc))?;
+    match files.read_at(&text(alloc, path)?, at, 9) {
+        Ok(Piece::Bytes(bytes)) => Ok(bytes),
+        Ok(Piece::Ended) => text(alloc, "ended"),
+        Ok(Piece::Missing) => text(alloc, "missing"),
+        Err(_) => Err(NoMemory),
+    }
+}
+
+#[test]
+fn a_file_is_read_in_pieces(rt: HostRuntime) {
+    for (path, at, want) in [
+        ("b/f/x.csv", 0, "ab"),
+        ("b/f/x.csv", 2, "c"),
+        ("b/f/x.csv", 3, "ended"),
+        ("b/f", 0, "missing"),
+    ] {
+        let read = piece(rt.alloc(), path, at).expect(&rt, "memory");
+        assert!(rt; read.as_slice() == want.as_bytes(), "{path} at {at}");
+    }
+}
+
+// All that a source gives in ten calls, and a star for each failure.
+fn taken(alloc: Global) -> Result<Text, NoMemory> {
+    let mut source = MemorySource::new(text(alloc, "abcde")?, 2, one(alloc, 2)?);
+    let mut all = Text::new(alloc);
+    for _ in 0..10 {
+        let mut room = [0; 3];
+        match source.take(room.as_mut_slice()) {
+            Ok(n) => all.extend(&room[..n])?,
+            Err(Failed) => all.push(42)?,
+        }
+    }
+    Ok(all)
+}
+
+#[test]
+fn a_source_gives_its_bytes_once(rt: HostRuntime) {
+    let all = taken(rt.alloc()).expect(&rt, "memory");
+    assert!(rt; all.as_slice() == b"ab*cde".as_slice());
+}
+
+#[test]
+fn a_sink_keeps_what_is_put(rt: HostRuntime) {
+    let mut sink = MemorySink::new(rt.alloc(), one(rt.alloc(), 2).expect(&rt, "memory"));
+    assert!(rt; sink.put(b"abc".as_slice()) == Ok(()));
+    assert!(rt; sink.put(b"defg".as_slice()) == Err(Failed));
+    assert!(rt; sink.put(b"h".as_slice()) == Ok(()));
+    assert!(rt; sink.bytes().as_slice() == b"abcdeh".as_slice());
+}
+
+#[test]
+fn a_clock_stands(rt: HostRuntime) {
+    let mut clock = FixedClock::new(7);
+    assert!(rt; clock.now() == 7 && clock.now() == 7);
+}
+
+fn disk(alloc: Global) -> Result<MemoryDisk, NoMemory> {
+    MemoryDisk::new(alloc, text(alloc, "abc")?, Faults::none(alloc))
+}
+
+fn on_disk(alloc: Global) -> Result<(u64, Text, Text), Outside> {
+    let mut disks = Disks {
+        journal: disk(alloc)?,
+        left: disk(alloc)?,
+        right: disk(alloc)?,
+    };
+    write(&mut disks.left, 1, b"XYZ".as_slice());
+    disks.left.sync()?;
+    let size = disks.left.size()?;
+    Ok((size, disks.left.read_at(1, 2)?, disks.left.read_at(9, 5)?))
+}
+
+#[test]
+fn a_disk_reads_what_was_written(rt: HostRuntime) {
+    let (size, inside, past) = on_disk(rt.alloc()).expect(&rt, "memory");
+    assert!(rt; size == 4);
+    assert!(rt; inside.as_slice() == b"XY".as_slice());
+    assert!(rt; past.len() == 0);
+}
+
+fn joined(alloc: Global) -> Result<Text, NoMemory> {
+    let mut whole = Text::from_vec(text(alloc, "ab")?.copy(alloc)?.into_vec());
+    whole.push(99)?;
+    whole.extend(b"de".as_slice())?;
+    Ok(whole)
+}
+
+#[test]
+fn texts_go_by_their_bytes(rt: HostRuntime) {
+    let whole = joined(rt.alloc()).expect(&rt, "memory");
+    let same = text(rt.alloc(), "abcde").expect(&rt, "memory");
+    let less = text(rt.alloc(), "abcd").expect(&rt, "memory");
+    assert!(rt; whole == same && whole != less && less < same);
+    assert!(rt; whole.len() == 5 && whole.get(4) == Some(&101) && whole.get(5) == None);
+}
+
+fn listed(alloc: Global) -> Result<List<u64>, NoMemory> {
+    let mut list = List::from_vec(List::new(alloc).into_vec());
+    list.push(7)?;
+    list.push(8)?;
+    Ok(list)
+}
+
+#[test]
+fn a_list_keeps_its_items_in_order(rt: HostRuntime) {
+    let list = listed(rt.alloc()).expect(&rt, "memory");
+    assert!(rt; list.len() == 2 && list.get(0) == Some(&7) && list.get(2) == None);
+    assert!(rt; list.as_slice() == [7, 8].as_slice());
+}
+
+#[test]
+fn digests_are_compared_by_their_bytes(rt: HostRuntime) {
+    let digest = Digest { bytes: [7; 32] };
+    assert!(rt; digest == Digest { bytes: [7; 32] } && digest != Digest { bytes: [8; 32] });
 }

@@ -9,7 +9,10 @@ use std::alloc::Global;
 #[derive(Debug, Drop)]
 pub enum Change {
     /// A label of a vertex, which is new where it had none.
-    AddLabel { id: Text, label: Text },
+    AddLabel {
+        id: Text,
+        label: Text,
+    },
     /// A new edge between two vertices.
     AddEdge {
         id: Text,

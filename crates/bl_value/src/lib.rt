@@ -10,23 +10,23 @@
 //! This crate stands on `bl_outside`.
 #![tactic(auto)]
 
-mod value_type;
-mod value;
 mod cell;
-mod json_text;
+mod change;
 mod column;
+mod json_text;
 mod log_code;
 mod row;
-mod change;
+mod value;
+mod value_type;
 
-pub use value_type::ValueType;
-pub use value::{Value, compare};
 pub use cell::{CellRefusal, read_cell, without_spaces};
-pub use json_text::{json_of, json_value};
+pub use change::{Change, copy_changes};
 pub use column::{Column, ColumnUse, Columns, Side};
+pub use json_text::{json_of, json_value};
 pub use log_code::LogCode;
 pub use row::{DigestRow, Property, Row};
-pub use change::{Change, copy_changes};
+pub use value::{Value, compare};
+pub use value_type::ValueType;
 
-
-
+#[cfg(test)]
+mod tests;

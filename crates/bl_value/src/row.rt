@@ -31,7 +31,10 @@ pub enum Row {
         properties: List<Property>,
     },
     /// A record with a fault. The column is counted from 1, and 0 where the code has none.
-    Bad { code: LogCode, column: u32 },
+    Bad {
+        code: LogCode,
+        column: u32,
+    },
 }
 
 /// A row, and the digest of its file's records up to and with it.
