@@ -5,7 +5,7 @@ ghost use Rattle.serde_json.specs.Data.{string, put as with_member};
 ghost use Rattle.serde_json.specs.View.{view, members_view};
 ghost use Rattle.bl_value.specs.declared.value.Value.TheVariants.{Str};
 ghost use Rattle.bl_value.specs.Json.{IsText};
-ghost use Rattle.bl_value.specs.Valid.{IsChange, IsValue};
+ghost use Rattle.bl_value.specs.Valid.{IsPrintable, IsPrintableValue};
 ghost use Rattle.bl_change.specs.EventText.{HasTextValue, data_type, typed_data, property_type, element_data, edge_data, change_data, op_name, place_data, record_data, event_data, event_text};
 
 use crate::Event;
@@ -16,7 +16,7 @@ use std::alloc::Global;
 
 /// The text of an event, without a line end. Changes whose value is a text are printed so far.
 pub fn print_event(alloc: Global, event: &Event) -> Result<Text, NoMemory>
-    requires valid { IsChange event.now.change }
+    requires printable { IsPrintable event.now.change }
     requires text { HasTextValue event.now.change }
     ensures { IfOk result (λ text. text ≡ event_text event.now) }
 {
@@ -25,7 +25,7 @@ pub fn print_event(alloc: Global, event: &Event) -> Result<Text, NoMemory>
 }
 
 fn event_json(alloc: Global, event: &Event) -> Result<Json, NoMemory>
-    requires valid { IsChange event.now.change }
+    requires printable { IsPrintable event.now.change }
     requires text { HasTextValue event.now.change }
     ensures { IfOk result (λ json. view json ≡ event_data event.now) }
 {
@@ -74,7 +74,7 @@ fn operation(change: &Change) -> &str
 }
 
 fn change_json(alloc: Global, change: &Change) -> Result<Json, NoMemory>
-    requires valid { IsChange change.now }
+    requires printable { IsPrintable change.now }
     requires text { HasTextValue change.now }
     ensures { IfOk result (λ json. view json ≡ change_data change.now) }
 {
@@ -116,7 +116,7 @@ fn property_json(
 ) -> Result<Json, NoMemory>
     requires id { IsUtf8 id.now }
     requires key { IsUtf8 key.now }
-    requires valid { IsValue value.now }
+    requires printable { IsPrintableValue value.now }
     requires text { IsText value.now }
     ensures { IfOk result (λ json. view json
         ≡ element_data (property_type side) id.now key.now (typed_data value.now)) }
@@ -180,7 +180,7 @@ fn label_json(alloc: Global, label: &str) -> Result<Json, NoMemory>
 }
 
 fn value_json(alloc: Global, value: &Value) -> Result<Json, NoMemory>
-    requires valid { IsValue value.now }
+    requires printable { IsPrintableValue value.now }
     requires text { IsText value.now }
     ensures { IfOk result (λ json. view json ≡ typed_data value.now) }
 {

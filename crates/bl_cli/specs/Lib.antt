@@ -6,6 +6,7 @@ pub mod Contents
 pub mod RecordReaders
 pub mod Headers
 pub mod Rows
+pub mod Printable
 pub mod Loads
 pub mod Outputs
 pub mod Runs

@@ -13,6 +13,7 @@ use Rattle.bl_graph.specs.Replay.{after}
 use Rattle.bl_graph.specs.Admission.{admit}
 use Rattle.bl_graph.specs.declared.verdict.Verdict.{Verdict}
 use Rattle.bl_graph.specs.declared.verdict.Verdict.TheVariants.{Changes, Duplicate, Refused}
+use Rattle.bl_cli.specs.declared.loading.Loaded.{Loaded}
 use Rattle.bl_cli.specs.Contents.{contents}
 use Rattle.bl_cli.specs.Headers.{plain_columns}
 use Rattle.bl_cli.specs.Rows.{plain_row}
@@ -27,35 +28,34 @@ duplicates_in (Changes changes) = 0
 duplicates_in Duplicate = 1
 duplicates_in (Refused code column) = 0
 
+
+
+-- before the first row
+abbrev pub nothing : Loaded
+nothing = record { graph = empty; changes = []; records = 0; duplicates = 0 }
+
 -- what one row does to a graph
 abbrev pub row_changes : Graph → Row → List Change
 row_changes graph row = changes_in (admit graph false row)
 
--- the graph after the rows, each admitted in turn
-abbrev pub graph_after : Graph → List Row → Graph
-graph_after graph [] = graph
-graph_after graph (row ∷ rows) = graph_after (after graph (row_changes graph row)) rows
+-- one row more
+abbrev pub with_row : Loaded → Row → Loaded
+with_row loaded row =
+    record {
+      graph = after loaded.graph (row_changes loaded.graph row);
+      changes = loaded.changes ++ row_changes loaded.graph row;
+      records = loaded.records + 1;
+      duplicates = loaded.duplicates + duplicates_in (admit loaded.graph false row);
+    }
 
--- all changes that the rows make
-abbrev pub changes_from : Graph → List Row → List Change
-changes_from graph [] = []
-changes_from graph (row ∷ rows) = row_changes graph row ++ changes_from (after graph (row_changes graph row)) rows
+-- the rows, one after another
+abbrev pub with_rows : Loaded → List Row → Loaded
+with_rows loaded [] = loaded
+with_rows loaded (row ∷ rows) = with_rows (with_row loaded row) rows
 
--- how many of the rows change nothing
-abbrev pub duplicates_from : Graph → List Row → ℕ
-duplicates_from graph [] = 0
-duplicates_from graph (row ∷ rows) = duplicates_in (admit graph false row) + duplicates_from (after graph (row_changes graph row)) rows
-
--- what a load leaves: its graph, its changes and its totals
-pub record Loaded : Type 0 where
-  pub graph : Graph
-  pub changes : List Change
-  pub records : ℕ
-  pub duplicates : ℕ
-
+-- the load of a list of rows
 abbrev pub load_of : List Row → Loaded
-load_of rows =
-    record { graph = graph_after empty rows; changes = changes_from empty rows; records = length rows; duplicates = duplicates_from empty rows }
+load_of rows = with_rows nothing rows
 
 -- the rows of plain records
 abbrev pub plain_rows : List ColumnUse → List (List (List ℕ)) → Option (List Row)

@@ -5,7 +5,7 @@ use Rattle.bl_value.specs.declared.change.Change.{Change}
 use Rattle.bl_change.specs.declared.event.Event.{Event}
 use Rattle.bl_change.specs.EventText.{event_text}
 use Rattle.bl_cli.specs.LoadIds.{load_id_text}
-use Rattle.bl_cli.specs.Loads.{Loaded}
+use Rattle.bl_cli.specs.declared.loading.Loaded.{Loaded}
 
 abbrev pub is_end : List Change → Bool
 is_end [] = true

@@ -6,7 +6,8 @@ use Rattle.bl_graph.specs.Graph.{empty}
 use Rattle.bl_graph.specs.Replay.{after}
 use Rattle.bl_cli.specs.declared.words.Asked.{Asked}
 use Rattle.bl_cli.specs.Words.{asked}
-use Rattle.bl_cli.specs.Loads.{Loaded, file_load}
+use Rattle.bl_cli.specs.declared.loading.Loaded.{Loaded}
+use Rattle.bl_cli.specs.Loads.{file_load}
 use Rattle.bl_cli.specs.Outputs.{load_output, failed_line}
 
 -- a fact of what was written before and after, where it is told

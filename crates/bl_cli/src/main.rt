@@ -8,6 +8,7 @@ mod load_id;
 mod file;
 mod records;
 mod header;
+mod loading;
 mod rows;
 
 #[cfg(test)]

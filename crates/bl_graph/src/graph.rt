@@ -1,5 +1,5 @@
 // The property graph, and the change applied.
-ghost use Rattle.std.specs.Prelude.{◌≡◌, true, IfOk, OnOk, OnErr};
+ghost use Rattle.std.specs.Prelude.{◌≡◌, IfOk, OnOk, OnErr};
 ghost use Rattle.std.specs.FinMap as map;
 ghost use Rattle.std.specs.FinSet as set;
 ghost use Rattle.bl_graph.specs.Graph.{empty, has_vertex, labels_of, properties, values_at};
@@ -95,10 +95,9 @@ impl Graph {
         }
     }
 
-    /// Applies a change that fits. After want of memory the graph is as it was.
+    /// Applies a change. After want of memory the graph is as it was.
     pub fn apply(&mut self, change: &Change) -> Result<(), NoMemory>
         requires plain { IsPlainChange change.now }
-        requires fits { fits self.old change.now ≡ true }
         ensures ok { OnOk result (self.new ≡ after_one self.old change.now) }
         ensures err { OnErr result (self.new ≡ self.old) }
     {

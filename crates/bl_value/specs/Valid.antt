@@ -41,3 +41,19 @@ IsChange (AddLabel id label) = IsId id × IsId label
 IsChange (AddEdge id label from to) = IsId id × IsId label × IsId from × IsId to
 IsChange (AddValue side id key value) = IsId id × IsKey key × IsValue value
 IsChange (RemoveValue side id key value) = IsId id × IsKey key × IsValue value
+
+-- What can be printed: texts in UTF-8 and dates in their range, of whatever length. All that is valid can.
+abbrev pub IsPrintableValue : Value → Type 0
+IsPrintableValue (Str text) = IsUtf8 text
+IsPrintableValue (Date seconds) = IsDate seconds
+IsPrintableValue (Bool b) = Unit {0}
+IsPrintableValue (Byte n) = Unit {0}
+IsPrintableValue (Short n) = Unit {0}
+IsPrintableValue (Int n) = Unit {0}
+IsPrintableValue (Long n) = Unit {0}
+
+abbrev pub IsPrintable : Change → Type 0
+IsPrintable (AddLabel id label) = IsUtf8 id × IsUtf8 label
+IsPrintable (AddEdge id label from to) = IsUtf8 id × IsUtf8 label × IsUtf8 from × IsUtf8 to
+IsPrintable (AddValue side id key value) = IsUtf8 id × IsUtf8 key × IsPrintableValue value
+IsPrintable (RemoveValue side id key value) = IsUtf8 id × IsUtf8 key × IsPrintableValue value

@@ -1,7 +1,7 @@
 // Values as JSON (RFC 8259).
 ghost use Rattle.std.specs.Prelude.{◌≡◌, IfOk};
 ghost use Rattle.serde_json.specs.View.{view};
-ghost use Rattle.bl_value.specs.Valid.{IsValue};
+ghost use Rattle.bl_value.specs.Valid.{IsPrintableValue};
 ghost use Rattle.bl_value.specs.Json.{IsText, value_data, value_text};
 
 use crate::Value;
@@ -11,7 +11,7 @@ use std::alloc::Global;
 
 /// The JSON text of a value, compact as `serde_json` writes it.
 pub fn json_value(alloc: Global, value: &Value) -> Result<Text, NoMemory>
-    requires valid { IsValue value.now }
+    requires printable { IsPrintableValue value.now }
     requires text { IsText value.now }
     ensures { IfOk result (λ json. json ≡ value_text value.now) }
 {
@@ -21,7 +21,7 @@ pub fn json_value(alloc: Global, value: &Value) -> Result<Text, NoMemory>
 
 /// The value as JSON, for a text that it stands in.
 pub fn json_of(alloc: Global, value: &Value) -> Result<Json, NoMemory>
-    requires valid { IsValue value.now }
+    requires printable { IsPrintableValue value.now }
     requires text { IsText value.now }
     ensures { IfOk result (λ json. view json ≡ value_data value.now) }
 {
