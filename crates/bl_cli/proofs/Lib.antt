@@ -4,3 +4,8 @@ mod Parts
 mod Utf8
 mod PlainCells
 mod Soundness
+mod Lines
+mod TrimmedTexts
+mod TextRows
+mod TextChanges
+mod TextColumns

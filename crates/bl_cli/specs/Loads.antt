@@ -34,19 +34,19 @@ duplicates_in (Refused code column) = 0
 abbrev pub nothing : Loaded
 nothing = record { graph = empty; changes = []; records = 0; duplicates = 0 }
 
--- what one row does to a graph
-abbrev pub row_changes : Graph → Row → List Change
-row_changes graph row = changes_in (admit graph false row)
-
--- one row more
-abbrev pub with_row : Loaded → Row → Loaded
-with_row loaded row =
+-- what a verdict adds to a load
+abbrev pub with_verdict : Loaded → Verdict → Loaded
+with_verdict loaded verdict =
     record {
-      graph = after loaded.graph (row_changes loaded.graph row);
-      changes = loaded.changes ++ row_changes loaded.graph row;
+      graph = after loaded.graph (changes_in verdict);
+      changes = loaded.changes ++ changes_in verdict;
       records = loaded.records + 1;
-      duplicates = loaded.duplicates + duplicates_in (admit loaded.graph false row);
+      duplicates = loaded.duplicates + duplicates_in verdict;
     }
+
+-- one row more, admitted into the graph so far; single values are not updated
+abbrev pub with_row : Loaded → Row → Loaded
+with_row loaded row = with_verdict loaded (admit loaded.graph false row)
 
 -- the rows, one after another
 abbrev pub with_rows : Loaded → List Row → Loaded
@@ -62,11 +62,15 @@ abbrev pub plain_rows : List ColumnUse → List (List (List ℕ)) → Option (Li
 plain_rows uses [] = Some []
 plain_rows uses (record_ ∷ records) = option_and_then (λ row. option_map (λ rows. row ∷ rows) (plain_rows uses records)) (plain_row uses record_)
 
--- the rows of a file whose header and records are plain, with at most 1,000 records behind the header
+-- the rows behind a header, where it and they are plain and there are at most 1,000
+abbrev pub rows_behind : List (List ℕ) → List (List (List ℕ)) → Option (List Row)
+rows_behind header records =
+    if nat_le (length records) 1000 then option_and_then (λ uses. plain_rows uses records) (plain_columns header) else None
+
+-- the rows of a file that has a header
 abbrev pub file_rows : List (List (List ℕ)) → Option (List Row)
 file_rows [] = None
-file_rows (header ∷ records) =
-    if nat_le (length records) 1000 then option_and_then (λ uses. plain_rows uses records) (plain_columns header) else None
+file_rows (header ∷ records) = rows_behind header records
 
 -- a name that says that the file is compressed
 abbrev pub is_compressed : List ℕ → Bool

@@ -30,7 +30,7 @@ number_behind number = 32 ∷ decimal number
 -- the line of a job: its id, its status, and the totals of records, duplicates, parsing, datatype and insert errors
 abbrev pub job_line : ℕ → List ℕ → ℕ → ℕ → List ℕ
 job_line salt status records duplicates =
-    load_id_text salt 1 ++ (32 ∷ (status ++ (number_behind records ++ (number_behind duplicates ++ (number_behind 0 ++ (number_behind 0 ++ (number_behind 0 ++ 10 ∷ [])))))))
+    load_id_text salt 1 ++ 32 ∷ [] ++ status ++ flat_map number_behind (records ∷ (duplicates ∷ (0 ∷ (0 ∷ (0 ∷ []))))) ++ 10 ∷ []
 
 abbrev pub completed_line : ℕ → Loaded → List ℕ
 completed_line salt loaded = job_line salt (codes "LOAD_COMPLETED") loaded.records loaded.duplicates

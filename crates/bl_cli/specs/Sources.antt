@@ -48,11 +48,15 @@ abbrev pub joined : List ℕ → List ℕ → List ℕ
 joined bucket [] = bucket
 joined bucket (byte ∷ key) = bucket ++ 47 ∷ (byte ∷ key)
 
+-- a path is a text
+abbrev pub if_text : List ℕ → Option (List ℕ)
+if_text path = if is_utf8 path then Some path else None
+
 -- the path of a source without `s3://`, which a folder is asked for
 abbrev pub path_behind : List ℕ → Option (List ℕ)
 path_behind rest =
-    if is_bucket (before_first is_slash rest) && (is_key (after_first is_slash rest) && is_utf8 rest)
-    then Some (joined (before_first is_slash rest) (kept_key (after_first is_slash rest))) else None
+    if is_bucket (before_first is_slash rest) && is_key (after_first is_slash rest)
+    then if_text (joined (before_first is_slash rest) (kept_key (after_first is_slash rest))) else None
 
 abbrev pub path_of : List ℕ → Option (List ℕ)
 path_of source = if starts_with nat_eq source (codes "s3://") then path_behind (drop 5 source) else None

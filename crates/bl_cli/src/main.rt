@@ -9,6 +9,7 @@ mod file;
 mod records;
 mod header;
 mod loading;
+mod outputs;
 mod rows;
 
 #[cfg(test)]

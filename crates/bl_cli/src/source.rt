@@ -1,7 +1,8 @@
 // The source of a load.
-ghost use Rattle.std.specs.Prelude.{◌≡◌, IfOk};
+ghost use Rattle.std.specs.Prelude.{◌≡◌, IfOk, IfSome};
+ghost use Rattle.std.specs.Str.{IsUtf8};
 ghost use Rattle.std.specs.List.{after_first, before_first, list_all};
-ghost use Rattle.bl_cli.specs.Sources.{begins_well, is_bucket, is_bucket_byte, is_letter_or_digit, is_slash, is_key, is_part, joined, kept_key, parts, path_behind, path_of};
+ghost use Rattle.bl_cli.specs.Sources.{begins_well, if_text, is_bucket, is_bucket_byte, is_letter_or_digit, is_slash, is_key, is_part, joined, kept_key, parts, path_behind, path_of};
 
 use crate::bytes::{is_text, place_of};
 use bl_outside::{NoMemory, Text};
@@ -98,13 +99,26 @@ fn divided(text: &[u8]) -> (&[u8], &[u8])
     }
 }
 
+// The path, where it is a text.
+fn if_text(path: Text) -> Option<Text>
+    ensures path { result ≡ if_text path }
+    ensures utf8 { IfSome result IsUtf8 }
+{
+    if is_text(path.as_slice()) {
+        Some(path)
+    } else {
+        None
+    }
+}
+
 // The path behind `s3://`, where the rest is a bucket, or a bucket, a slash and a key.
 fn path_behind(alloc: Global, rest: &[u8]) -> Result<Option<Text>, NoMemory>
-    ensures { IfOk result (λ path. path ≡ path_behind rest.now) }
+    ensures path { IfOk result (λ path. path ≡ path_behind rest.now) }
+    ensures utf8 { IfOk result (λ path. IfSome path IsUtf8) }
 {
     let (bucket, key) = divided(rest);
-    if is_bucket(bucket) && is_key(key) && is_text(rest) {
-        return Ok(Some(joined(alloc, bucket, kept_key(key))?));
+    if is_bucket(bucket) && is_key(key) {
+        return Ok(if_text(joined(alloc, bucket, kept_key(key))?));
     }
     Ok(None)
 }
@@ -112,7 +126,8 @@ fn path_behind(alloc: Global, rest: &[u8]) -> Result<Option<Text>, NoMemory>
 /// The path of a source: the source without `s3://` and without a slash at its end. None where the
 /// text is no source.
 pub fn path_of(alloc: Global, source: &[u8]) -> Result<Option<Text>, NoMemory>
-    ensures { IfOk result (λ path. path ≡ path_of source.now) }
+    ensures path { IfOk result (λ path. path ≡ path_of source.now) }
+    ensures utf8 { IfOk result (λ path. IfSome path IsUtf8) }
 {
     match source.strip_prefix(b"s3://") {
         Some(rest) => path_behind(alloc, rest),

@@ -1,5 +1,6 @@
 // The words of the command line.
-ghost use Rattle.std.specs.Prelude.{◌≡◌, length, map, IfOk, string_bytes};
+ghost use Rattle.std.specs.Prelude.{◌≡◌, length, map, IfOk, IfSome, string_bytes};
+ghost use Rattle.std.specs.Str.{IsUtf8};
 ghost use Rattle.bl_cli.specs.Words.{asked, asked_of, is_word};
 
 use crate::source::path_of;
@@ -16,7 +17,8 @@ pub struct Asked {
 }
 
 fn asked_of(alloc: Global, source: &str, changes: bool) -> Result<Option<Asked>, NoMemory>
-    ensures { IfOk result (λ asked. asked ≡ asked_of source.now changes) }
+    ensures asked { IfOk result (λ asked. asked ≡ asked_of source.now changes) }
+    ensures utf8 { IfOk result (λ asked. IfSome asked (λ load. IsUtf8 load.path)) }
 {
     match path_of(alloc, source.as_bytes())? {
         Some(path) => Ok(Some(Asked { path, changes })),
@@ -32,7 +34,8 @@ fn is_word(text: &str, word: &str) -> bool
 
 /// What the words behind ROOT and STORE ask for. None where they are outside the grammar.
 pub fn read_words(alloc: Global, words: &[String]) -> Result<Option<Asked>, NoMemory>
-    ensures { IfOk result (λ load. load ≡ asked (map string_bytes words.now)) }
+    ensures asked { IfOk result (λ load. load ≡ asked (map string_bytes words.now)) }
+    ensures utf8 { IfOk result (λ asked. IfSome asked (λ load. IsUtf8 load.path)) }
 {
     if words.len() == 2 {
         return read_two(alloc, words);
@@ -46,7 +49,8 @@ pub fn read_words(alloc: Global, words: &[String]) -> Result<Option<Asked>, NoMe
 // `load SOURCE`
 fn read_two(alloc: Global, words: &[String]) -> Result<Option<Asked>, NoMemory>
     requires { length words.now ≡ 2 }
-    ensures { IfOk result (λ load. load ≡ asked (map string_bytes words.now)) }
+    ensures asked { IfOk result (λ load. load ≡ asked (map string_bytes words.now)) }
+    ensures utf8 { IfOk result (λ asked. IfSome asked (λ load. IsUtf8 load.path)) }
 {
     if !is_word(words[0].as_str(), "load") {
         return Ok(None);
@@ -57,7 +61,8 @@ fn read_two(alloc: Global, words: &[String]) -> Result<Option<Asked>, NoMemory>
 // `load SOURCE --changes`
 fn read_three(alloc: Global, words: &[String]) -> Result<Option<Asked>, NoMemory>
     requires { length words.now ≡ 3 }
-    ensures { IfOk result (λ load. load ≡ asked (map string_bytes words.now)) }
+    ensures asked { IfOk result (λ load. load ≡ asked (map string_bytes words.now)) }
+    ensures utf8 { IfOk result (λ asked. IfSome asked (λ load. IsUtf8 load.path)) }
 {
     if !is_word(words[0].as_str(), "load") {
         return Ok(None);

@@ -11,5 +11,5 @@ other_number f (a ∷ (b ∷ [])) not_two not_three = absurd (not_two refl)
 other_number f (a ∷ (b ∷ (c ∷ []))) not_two not_three = absurd (not_three refl)
 other_number f (a ∷ (b ∷ (c ∷ (d ∷ rest)))) not_two not_three = refl
 
-pub returns : goal.returns
-returns c = other_number string_bytes c.args.words.now c.if-words-eq2.false c.if-words-eq3.false
+pub returns-clause-asked : goal.returns-clause-asked
+returns-clause-asked c = other_number string_bytes c.args.words.now c.if-words-eq2.false c.if-words-eq3.false
