@@ -9,3 +9,4 @@ mod TrimmedTexts
 mod TextRows
 mod TextChanges
 mod TextColumns
+mod LoadedRows

@@ -8,5 +8,7 @@ pub mod Headers
 pub mod Rows
 pub mod Printable
 pub mod Loads
+pub mod TakenRows
 pub mod Outputs
+pub mod Statuses
 pub mod Runs

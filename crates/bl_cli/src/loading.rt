@@ -6,6 +6,7 @@ ghost use Rattle.bl_graph.specs.Graph.{empty as empty_graph};
 ghost use Rattle.bl_graph.specs.Replay.{after};
 ghost use Rattle.bl_cli.specs.Printable.{IsTextChange, IsTextColumn, IsTextRow};
 ghost use Rattle.bl_cli.specs.Loads.{bytes_load, changes_in, file_rows, is_compressed, load_of, plain_rows, rows_behind, with_row, with_verdict};
+ghost use Rattle.bl_cli.specs.TakenRows.{TakesRecord};
 
 use crate::header::plain_columns;
 use crate::records::all_records;
@@ -97,13 +98,33 @@ fn take_row(loaded: &mut Loaded, row: &Row) -> Result<(), NoMemory>
     take_verdict(loaded, verdict)
 }
 
+// Takes a record into the load. False where it isn't plain, and then nothing is taken.
+fn take_record(
+    alloc: Global,
+    uses: &[ColumnUse],
+    loaded: &mut Loaded,
+    fields: &[Text],
+) -> Result<bool, NoMemory>
+    requires columns { length uses.now ≤ 1024 }
+    requires texts { All IsTextColumn uses.now }
+    requires few { loaded.old.duplicates < 2 ^ 32 }
+    requires records { loaded.old.records < 2 ^ 32 }
+    ensures { IfOk result (TakesRecord uses.now fields.now loaded.old loaded.new) }
+{
+    let Some(row) = plain_row(alloc, uses, fields)? else {
+        return Ok(false);
+    };
+    take_row(loaded, &row)?;
+    Ok(true)
+}
+
 // The load of the records. None where one of them isn't plain.
 fn load_records(
     alloc: Global,
     uses: &[ColumnUse],
     records: &[List<Text>],
 ) -> Result<Option<Loaded>, NoMemory>
-    requires few { length uses.now ≤ 1024 }
+    requires columns { length uses.now ≤ 1024 }
     requires texts { All IsTextColumn uses.now }
     requires records { length records.now ≤ 1000 }
     ensures load { IfOk result (λ loaded. loaded ≡ option_map load_of (plain_rows uses.now records.now)) }
@@ -112,10 +133,9 @@ fn load_records(
 {
     let mut loaded = Loaded::nothing(alloc);
     for fields in records {
-        let Some(row) = plain_row(alloc, uses, fields.as_slice())? else {
+        if !take_record(alloc, uses, &mut loaded, fields.as_slice())? {
             return Ok(None);
-        };
-        take_row(&mut loaded, &row)?;
+        }
     }
     Ok(Some(loaded))
 }

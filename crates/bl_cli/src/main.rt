@@ -11,6 +11,8 @@ mod header;
 mod loading;
 mod outputs;
 mod rows;
+mod status;
+mod top;
 
 #[cfg(test)]
 mod file_tests;

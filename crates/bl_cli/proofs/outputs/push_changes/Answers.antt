@@ -10,7 +10,7 @@ use Rattle.bl_cli.proofs.outputs.push_changes.Goals as goal
 
 pub loop-change-preserved : goal.loop-change-preserved
 loop-change-preserved c =
-    let more : into_iter_items c.loop-change.change-iterator ≡ c.in-Some.change ∷ into_iter_items c.next.new.self = c.in-Some.ensures.steps in
+    let more : into_iter_items c.loop-change.change-iterator ≡ c.in-Some.change ∷ into_iter_items c.next.new.self = c.in-Some.ensures.steps.0 in
     let count : c.len-count.result ≡ c.loop-change.op + 1 + length (into_iter_items c.next.new.self) = omega (arith, c.loop-change.invariant.count, ap length more) in
     record {
       count = count;
