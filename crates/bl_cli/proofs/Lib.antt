@@ -10,3 +10,4 @@ mod TextRows
 mod TextChanges
 mod TextColumns
 mod LoadedRows
+mod Finished

@@ -1,5 +1,5 @@
 -- What a run of the program comes to, where the folder tells its files and the output what was written.
-use Rattle.std.specs.Prelude.{◌≡◌, ℕ, List, ◌++◌, take, None, Some}
+use Rattle.std.specs.Prelude.{◌≡◌, ◌⊎◌, ℕ, List, ◌++◌, take, None, Some}
 use Rattle.std.specs.declared.option.Option.{Option}
 use Rattle.bl_outside.specs.Folders.{Files}
 use Rattle.bl_graph.specs.Graph.{empty}
@@ -8,9 +8,11 @@ use Rattle.bl_cli.specs.declared.loading.Loaded.{Loaded}
 use Rattle.bl_cli.specs.declared.words.Asked.{Asked}
 use Rattle.bl_cli.specs.declared.status.Status.{Status}
 use Rattle.bl_cli.specs.declared.status.Status.TheVariants.{Ok, JobNotCompleted, Usage, WriteFault, NoMemory, NotBuilt}
+use Rattle.bl_outside.specs.Counts.{Rose}
+use Rattle.bl_cli.specs.Statuses.{line_of}
 use Rattle.bl_cli.specs.Words.{asked}
 use Rattle.bl_cli.specs.Loads.{file_load}
-use Rattle.bl_cli.specs.Outputs.{load_output}
+use Rattle.bl_cli.specs.Outputs.{failed_line, load_output}
 
 -- a fact of what was written before and after, where it is told
 abbrev pub Written : Option (List ℕ) → Option (List ℕ) → (List ℕ → List ℕ → Type 0) → Type 0
@@ -45,24 +47,25 @@ pub record IsLoad (files : Option Files) (path : List ℕ) (loaded : Loaded) : T
   pub loads : OfFiles files (λ told. file_load told path ≡ Some loaded)
   pub replays : after empty loaded.changes ≡ loaded.graph
 
--- The words ask for the load of a file that is loaded so far. All of its output was written.
-pub record PrintsLoad (files : Option Files) (words : List (List ℕ)) (salt moment : ℕ) (old new : Option (List ℕ)) : Type 0 where
-  pub command : Asked
-  pub asks : asked words ≡ Some command
+-- The command's file is loaded so far, and its load's whole output, or a front of it, was added.
+pub record LoadPrints (P : List ℕ → List ℕ → List ℕ → Type 0) (files : Option Files) (command : Asked) (salt moment : ℕ) (old new : Option (List ℕ)) : Type 0 where
   pub loaded : Loaded
   pub load : IsLoad files command.path loaded
-  pub prints : Written old new (Adds (load_output salt moment command.changes loaded))
+  pub prints : Written old new (P (load_output salt moment command.changes loaded))
 
--- The same of a front of the output.
-pub record PrintsFront (files : Option Files) (words : List (List ℕ)) (salt moment : ℕ) (old new : Option (List ℕ)) : Type 0 where
-  pub command : Asked
-  pub asks : asked words ≡ Some command
-  pub loaded : Loaded
-  pub load : IsLoad files command.path loaded
-  pub prints : Written old new (AddsFront (load_output salt moment command.changes loaded))
+-- What is left on the output where a sink failed: a front of the load's output, or of the line of a job that failed.
+abbrev pub LeavesFront : Option Files → Asked → ℕ → ℕ → Option (List ℕ) → Option (List ℕ) → Type 0
+LeavesFront files command salt moment old new = LoadPrints AddsFront files command salt moment old new ⊎ Written old new (AddsFront (failed_line salt))
 
--- The words ask for a load of what isn't loaded so far.
-pub record AsksForMore (files : Option Files) (words : List (List ℕ)) : Type 0 where
-  pub command : Asked
-  pub asks : asked words ≡ Some command
-  pub more : OfFiles files (λ told. file_load told command.path ≡ None)
+-- The command's file isn't loaded so far.
+abbrev pub IsNotBuilt : Option Files → Asked → Type 0
+IsNotBuilt files command = OfFiles files (λ told. file_load told command.path ≡ None)
+
+-- a fact of what the words ask for
+abbrev pub OfCommand : List (List ℕ) → (Asked → Type 0) → Type 0
+OfCommand words P = (command : Asked) × (asked words ≡ Some command) × P command
+
+-- The line of a status was added to the error output, or its sink failed, and then the status says so.
+abbrev pub Reports : Option (List ℕ) → Option (List ℕ) → ℕ → ℕ → Status → Status → Type 0
+Reports old new before now status result =
+    ((result ≡ status) × Written old new (Adds (line_of status))) ⊎ ((result ≡ WriteFault) × Rose before now)

@@ -1,5 +1,5 @@
 // The top call: a run of the program over whatever outside it is given.
-ghost use Rattle.std.specs.Prelude.{◌≡◌, ◌⊎◌, ◌≤◌, ◌++◌, ◌↔◌, map, string_bytes, IfOk, IfSome, IsSomeAnd, None, Some};
+ghost use Rattle.std.specs.Prelude.{◌≡◌, ◌⊎◌, ◌≤◌, ◌++◌, ◌↔◌, map, string_bytes, IfOk, IfSome, MatchOption, None, Some};
 ghost use Rattle.std.specs.List.{All};
 ghost use Rattle.std.specs.Str.{IsUtf8};
 ghost use Rattle.bl_outside.specs.Counts.{HasDeviceCause, Rose};
@@ -9,7 +9,8 @@ ghost use Rattle.bl_cli.specs.Words.{asked};
 ghost use Rattle.bl_cli.specs.Loads.{file_load};
 ghost use Rattle.bl_cli.specs.Outputs.{failed_line, load_output};
 ghost use Rattle.bl_cli.specs.Printable.{IsTextChange};
-ghost use Rattle.bl_cli.specs.Runs.{AddsFront, AsksForMore, OfFiles, Prints, PrintsFront, PrintsLoad, Written};
+ghost use Rattle.bl_cli.specs.Runs.{Adds, AddsFront, IsLoad, IsNotBuilt, LeavesFront, LoadPrints, OfCommand, OfFiles, Prints, Reports, Written};
+ghost use Rattle.bl_cli.specs.Statuses.{line_of};
 
 use crate::file::{FileRead, read_small_file};
 use crate::loading::{Loaded, is_compressed, load_bytes};
@@ -57,4 +58,172 @@ fn put_text<O: Sink>(out: &mut O, text: &Text, done: Status) -> Status
         Ok(()) => done,
         Err(Failed) => Status::WriteFault,
     }
+}
+
+// The output of a load.
+fn print_load<K: Clock, O: Sink>(
+    alloc: Global,
+    clock: &mut K,
+    salt: u128,
+    changes: bool,
+    loaded: Loaded,
+    out: &mut O,
+) -> Status
+    requires { All IsTextChange loaded.changes }
+    ensures prints { Prints Status.Ok (load_output salt (K.last clock.new) changes loaded) (O.written out.old) (O.written out.new) result }
+    ensures write_fault { result ≡ Status.WriteFault → Rose (O.faults out.old) (O.faults out.new) }
+    ensures later { O.faults out.old ≤ O.faults out.new }
+{
+    let moment = clock.now();
+    match load_output(alloc, salt, moment, changes, loaded) {
+        Ok(text) => put_text(out, &text, Status::Ok),
+        Err(NoMemory) => Status::NoMemory,
+    }
+}
+
+// The line of a job that failed.
+fn print_failed<O: Sink>(alloc: Global, salt: u128, out: &mut O) -> Status
+    ensures prints { Prints Status.JobNotCompleted (failed_line salt) (O.written out.old) (O.written out.new) result }
+    ensures write_fault { result ≡ Status.WriteFault → Rose (O.faults out.old) (O.faults out.new) }
+    ensures later { O.faults out.old ≤ O.faults out.new }
+{
+    match failed_line(alloc, salt) {
+        Ok(text) => put_text(out, &text, Status::JobNotCompleted),
+        Err(NoMemory) => Status::NoMemory,
+    }
+}
+
+// The end of a load, by what was found at its source.
+fn finish<K: Clock, O: Sink>(
+    alloc: Global,
+    clock: &mut K,
+    salt: u128,
+    changes: bool,
+    found: Option<Loaded>,
+    out: &mut O,
+) -> Status
+    requires { IfSome found (λ load. All IsTextChange load.changes) }
+    ensures ends { MatchOption found ((result ≡ Status.NotBuilt) × (O.written out.new ≡ O.written out.old))
+        (λ load. Prints Status.Ok (load_output salt (K.last clock.new) changes load) (O.written out.old) (O.written out.new) result) }
+    ensures write_fault { result ≡ Status.WriteFault → Rose (O.faults out.old) (O.faults out.new) }
+    ensures later { O.faults out.old ≤ O.faults out.new }
+{
+    match found {
+        Some(loaded) => print_load(alloc, clock, salt, changes, loaded, out),
+        None => Status::NotBuilt,
+    }
+}
+
+// Lists the source, reads the file, loads it and prints what is asked for.
+fn load<F: Folder, K: Clock, O: Sink>(
+    alloc: Global,
+    command: &Asked,
+    folder: &mut F,
+    clock: &mut K,
+    salt: u128,
+    out: &mut O,
+) -> Status
+    requires { IsUtf8 command.now.path }
+    ensures ok { result ≡ Status.Ok → LoadPrints Adds (F.files folder.old) command.now salt (K.last clock.new) (O.written out.old) (O.written out.new) }
+    ensures not_completed { result ≡ Status.JobNotCompleted → Written (O.written out.old) (O.written out.new) (Adds (failed_line salt)) }
+    ensures failed { result ≡ Status.JobNotCompleted → Rose (F.faults folder.old) (F.faults folder.new) }
+    ensures not_built { result ≡ Status.NotBuilt → IsNotBuilt (F.files folder.old) command.now }
+    ensures quiet { (result ≡ Status.NotBuilt) ⊎ (result ≡ Status.NoMemory) → O.written out.new ≡ O.written out.old }
+    ensures write_fault { result ≡ Status.WriteFault → Rose (O.faults out.old) (O.faults out.new) }
+    ensures front { result ≡ Status.WriteFault → LeavesFront (F.files folder.old) command.now salt (K.last clock.new) (O.written out.old) (O.written out.new) }
+    ensures usage { ¬ (result ≡ Status.Usage) }
+    ensures files { F.files folder.new ≡ F.files folder.old }
+{
+    match load_file(alloc, folder, &command.path) {
+        Ok(found) => finish(alloc, clock, salt, command.changes, found, out),
+        Err(Outside::Failed) => print_failed(alloc, salt, out),
+        Err(Outside::NoMemory) => Status::NoMemory,
+    }
+}
+
+// What the words ask for, without the line on the error output.
+fn answer<F: Folder, K: Clock, O: Sink>(
+    alloc: Global,
+    words: &[String],
+    folder: &mut F,
+    clock: &mut K,
+    salt: u128,
+    out: &mut O,
+) -> Status
+    ensures ok { result ≡ Status.Ok → OfCommand (map string_bytes words.now) (λ command. LoadPrints Adds (F.files folder.old) command salt (K.last clock.new) (O.written out.old) (O.written out.new)) }
+    ensures not_completed { result ≡ Status.JobNotCompleted → Written (O.written out.old) (O.written out.new) (Adds (failed_line salt)) }
+    ensures failed { result ≡ Status.JobNotCompleted → Rose (F.faults folder.old) (F.faults folder.new) }
+    ensures usage { result ≡ Status.Usage → asked (map string_bytes words.now) ≡ None }
+    ensures outside { asked (map string_bytes words.now) ≡ None → (result ≡ Status.Usage) ⊎ (result ≡ Status.NoMemory) }
+    ensures not_built { result ≡ Status.NotBuilt → OfCommand (map string_bytes words.now) (IsNotBuilt (F.files folder.old)) }
+    ensures quiet { (result ≡ Status.Usage) ⊎ (result ≡ Status.NotBuilt) ⊎ (result ≡ Status.NoMemory) → O.written out.new ≡ O.written out.old }
+    ensures write_fault { result ≡ Status.WriteFault → Rose (O.faults out.old) (O.faults out.new) }
+    ensures front { result ≡ Status.WriteFault → OfCommand (map string_bytes words.now) (λ command. LeavesFront (F.files folder.old) command salt (K.last clock.new) (O.written out.old) (O.written out.new)) }
+    ensures files { F.files folder.new ≡ F.files folder.old }
+{
+    match read_words(alloc, words) {
+        Ok(Some(command)) => load(alloc, &command, folder, clock, salt, out),
+        Ok(None) => Status::Usage,
+        Err(NoMemory) => Status::NoMemory,
+    }
+}
+
+// The line of a status on the error output.
+fn report<E: Sink>(status: Status, err: &mut E) -> Status
+    ensures { Reports (E.written err.old) (E.written err.new) (E.faults err.old) (E.faults err.new) status result }
+{
+    let line = status.line();
+    if line.is_empty() {
+        return status;
+    }
+    match err.put(line) {
+        Ok(()) => status,
+        Err(Failed) => Status::WriteFault,
+    }
+}
+
+/// Runs the words behind ROOT and STORE over a folder, three disks, a clock and streams, and gives
+/// the disks back. So far it loads one plain vertex file into an empty graph, prints its changes
+/// and its line, and leaves the disks and the input alone.
+///
+/// The load's id is made of the salt, and its moment is the clock's. Status 2 and above write their
+/// line on the error output. The runtime is for the workers of larger loads.
+pub fn run<R: Threads + Sync, F: Folder, D: Disk, K: Clock, S: Source, O: Sink, E: Sink>(
+    _runtime: &R,
+    alloc: Global,
+    words: &[String],
+    folder: &mut F,
+    disks: Disks<D>,
+    clock: &mut K,
+    salt: u128,
+    input: &mut S,
+    out: &mut O,
+    err: &mut E,
+) -> (Status, Disks<D>)
+    // Ok: the words ask for a load of a plain file, and its output was written whole. Its changes,
+    // replayed from the empty graph, give the graph of its rows.
+    ensures ok { result.0 ≡ Status.Ok → OfCommand (map string_bytes words.now) (λ command. LoadPrints Adds (F.files folder.old) command salt (K.last clock.new) (O.written out.old) (O.written out.new)) }
+
+    // The line of a job that failed, only where the folder failed.
+    ensures not_completed { result.0 ≡ Status.JobNotCompleted → Written (O.written out.old) (O.written out.new) (Adds (failed_line salt)) }
+    ensures failed { result.0 ≡ Status.JobNotCompleted → Rose (F.faults folder.old) (F.faults folder.new) }
+
+    // Usage exactly where the words are outside the grammar, and NotBuilt only where the file isn't
+    // loaded so far. Then nothing is written on the output, nor where memory ran out.
+    ensures usage { result.0 ≡ Status.Usage → asked (map string_bytes words.now) ≡ None }
+    ensures not_built { result.0 ≡ Status.NotBuilt → OfCommand (map string_bytes words.now) (IsNotBuilt (F.files folder.old)) }
+    ensures quiet { (result.0 ≡ Status.Usage) ⊎ (result.0 ≡ Status.NotBuilt) ⊎ (result.0 ≡ Status.NoMemory) → O.written out.new ≡ O.written out.old }
+
+    // A write fault only where a sink failed. The output is then a front of what it was to be.
+    ensures write_fault { result.0 ≡ Status.WriteFault → Rose (O.faults out.old) (O.faults out.new) ⊎ Rose (E.faults err.old) (E.faults err.new) }
+
+    // The line of the status, and what stays as it was.
+    ensures line { (result.0 ≡ Status.WriteFault) ⊎ Written (E.written err.old) (E.written err.new) (Adds (line_of result.0)) }
+    ensures disks { result.1 ≡ disks }
+    ensures input { input.new ≡ input.old }
+    ensures files { F.files folder.new ≡ F.files folder.old }
+{
+    let _ = input;
+    let status = answer(alloc, words, folder, clock, salt, out);
+    (report(status, err), disks)
 }
