@@ -11,3 +11,5 @@ mod TextChanges
 mod TextColumns
 mod LoadedRows
 mod Finished
+mod Answered
+mod Reported

@@ -65,7 +65,37 @@ IsNotBuilt files command = OfFiles files (λ told. file_load told command.path �
 abbrev pub OfCommand : List (List ℕ) → (Asked → Type 0) → Type 0
 OfCommand words P = (command : Asked) × (asked words ≡ Some command) × P command
 
+-- a status with a line on the error output
+abbrev pub HasLine : Status → Type 0
+HasLine Ok = ⊥
+HasLine JobNotCompleted = ⊥
+HasLine Usage = Unit {0}
+HasLine WriteFault = Unit {0}
+HasLine NoMemory = Unit {0}
+HasLine NotBuilt = Unit {0}
+
 -- The line of a status was added to the error output, or its sink failed, and then the status says so.
 abbrev pub Reports : Option (List ℕ) → Option (List ℕ) → ℕ → ℕ → Status → Status → Type 0
 Reports old new before now status result =
-    ((result ≡ status) × Written old new (Adds (line_of status))) ⊎ ((result ≡ WriteFault) × Rose before now)
+    ((result ≡ status) × Written old new (Adds (line_of status))) ⊎ ((result ≡ WriteFault) × Rose before now × HasLine status)
+
+-- Nothing was written on the output, or a front of what the words ask for.
+abbrev pub EndsInFront : Option Files → List (List ℕ) → ℕ → ℕ → Option (List ℕ) → Option (List ℕ) → Type 0
+EndsInFront files words salt moment old new = (new ≡ old) ⊎ OfCommand words (λ command. LeavesFront files command salt moment old new)
+
+-- no count of faults rose
+pub record IsQuiet (folder folder' out out' err err' : ℕ) : Type 0 where
+  pub folder_quiet : ¬ (Rose folder folder')
+  pub out_quiet : ¬ (Rose out out')
+  pub err_quiet : ¬ (Rose err err')
+
+-- The answer to a load of a file that is told: Ok exactly where it is loaded so far, else NotBuilt.
+abbrev pub IsFileAnswer : Option Loaded → Status → Type 0
+IsFileAnswer (Some loaded) status = (status ≡ Ok) ⊎ (status ≡ NoMemory)
+IsFileAnswer None status = (status ≡ NotBuilt) ⊎ (status ≡ NoMemory)
+
+-- The answer to what is asked, where no count rose: Usage exactly where nothing is. Want of memory may stand for each.
+abbrev pub IsAnswer : Option Files → Option Asked → Status → Type 0
+IsAnswer files None status = (status ≡ Usage) ⊎ (status ≡ NoMemory)
+IsAnswer None (Some command) status = ¬ (status ≡ Usage)
+IsAnswer (Some files) (Some command) status = IsFileAnswer (file_load files command.path) status

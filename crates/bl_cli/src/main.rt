@@ -1,4 +1,13 @@
-//! The command line, `bl ROOT STORE COMMAND ..`.
+//! The program `bl`: loads of property graph CSV, as the Neptune bulk loader makes them.
+//!
+//! `bl ROOT STORE load s3://BUCKET/KEY [--changes]` reads the file `ROOT/BUCKET/KEY`, admits its
+//! rows into an empty graph and prints the line of the job, with `--changes` after a line for each
+//! change. [`run`] does this over whatever outside it is handed, and its contract says what each
+//! answer means; `main` hands in the real folder, disks and streams.
+//!
+//! Words of the contracts: `specs/Words` and `specs/Sources` (the command line), `specs/Contents`,
+//! `specs/Headers` and `specs/Rows` (a file), `specs/Loads` (a load), `specs/Outputs` (what is
+//! printed), `specs/Runs` (how a run ends).
 #![tactic(auto)]
 
 mod bytes;
@@ -8,13 +17,103 @@ mod load_id;
 mod file;
 mod records;
 mod header;
+mod rows;
 mod loading;
 mod outputs;
-mod rows;
 mod status;
 mod top;
 
 #[cfg(test)]
 mod file_tests;
 
-fn main() {}
+use bl_outside::{Disks, FixedClock, Sink};
+use bl_system::{FileDisk, ReadSource, RealFolder, WriteSink};
+use std::alloc::{AllocError, Global};
+use std::env;
+use std::process::ExitCode;
+use std::thread::Threads;
+
+pub use status::Status;
+pub use top::run;
+
+// A file of the store.
+fn disk_at(
+    rt: &HostRuntime,
+    alloc: Global,
+    store: &str,
+    name: &str,
+) -> Result<FileDisk<HostRuntime>, AllocError> {
+    let path = format!(in alloc; "{store}/{name}")?;
+    Ok(FileDisk::open(rt, alloc, store, path.as_str()))
+}
+
+fn disks_of(
+    rt: &HostRuntime,
+    alloc: Global,
+    store: &str,
+) -> Result<Disks<FileDisk<HostRuntime>>, AllocError> {
+    Ok(Disks {
+        journal: disk_at(rt, alloc, store, "journal.bl")?,
+        left: disk_at(rt, alloc, store, "left.bl")?,
+        right: disk_at(rt, alloc, store, "right.bl")?,
+    })
+}
+
+// The arguments behind the program's own name. None where they can't be read as text.
+fn arguments(rt: &HostRuntime) -> Option<Vec<String>> {
+    let mut words = Vec::new(rt.alloc());
+    for word in env::args(rt).ok()?.skip(1) {
+        words.push(word).ok()?;
+    }
+    Some(words)
+}
+
+// Runs the words over the real folder, disks and streams.
+fn run_real<R: Threads + Sync>(
+    runtime: &R,
+    rt: HostRuntime,
+    words: &[String],
+) -> Result<Status, AllocError> {
+    let [root, store, command @ ..] = words else {
+        return Ok(refuse(rt, Status::Usage));
+    };
+    let alloc = rt.alloc();
+    let mut folder = RealFolder::new(rt, root.clone()?);
+    let disks = disks_of(&rt, alloc, store.as_str())?;
+    let mut clock = FixedClock::new(0);
+    let mut input = ReadSource::new(rt.stdin());
+    let mut out = WriteSink::new(rt.stdout());
+    let mut err = WriteSink::new(rt.stderr());
+    let (status, _) = run(
+        runtime,
+        alloc,
+        command,
+        &mut folder,
+        disks,
+        &mut clock,
+        0,
+        &mut input,
+        &mut out,
+        &mut err,
+    );
+    Ok(status)
+}
+
+// A refusal before the run, with its line.
+fn refuse(rt: HostRuntime, status: Status) -> Status {
+    match WriteSink::new(rt.stderr()).put(status.line()) {
+        Ok(()) => status,
+        Err(_) => Status::WriteFault,
+    }
+}
+
+fn main(rt: HostRuntime) -> ExitCode {
+    let status = match arguments(&rt) {
+        Some(words) => match run_real(&rt, rt, &words) {
+            Ok(status) => status,
+            Err(_) => refuse(rt, Status::NoMemory),
+        },
+        None => refuse(rt, Status::Usage),
+    };
+    ExitCode::from(status.code())
+}

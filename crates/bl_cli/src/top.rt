@@ -9,7 +9,7 @@ ghost use Rattle.bl_cli.specs.Words.{asked};
 ghost use Rattle.bl_cli.specs.Loads.{file_load};
 ghost use Rattle.bl_cli.specs.Outputs.{failed_line, load_output};
 ghost use Rattle.bl_cli.specs.Printable.{IsTextChange};
-ghost use Rattle.bl_cli.specs.Runs.{Adds, AddsFront, IsLoad, IsNotBuilt, LeavesFront, LoadPrints, OfCommand, OfFiles, Prints, Reports, Written};
+ghost use Rattle.bl_cli.specs.Runs.{Adds, EndsInFront, HasLine, IsAnswer, IsNotBuilt, IsQuiet, LeavesFront, LoadPrints, OfCommand, OfFiles, Prints, Reports, Written};
 ghost use Rattle.bl_cli.specs.Statuses.{line_of};
 
 use crate::file::{FileRead, read_small_file};
@@ -172,14 +172,47 @@ fn answer<F: Folder, K: Clock, O: Sink>(
 fn report<E: Sink>(status: Status, err: &mut E) -> Status
     ensures { Reports (E.written err.old) (E.written err.new) (E.faults err.old) (E.faults err.new) status result }
 {
-    let line = status.line();
-    if line.is_empty() {
-        return status;
+    match status {
+        Status::Ok | Status::JobNotCompleted => status,
+        Status::Usage | Status::WriteFault | Status::NoMemory | Status::NotBuilt => {
+            put_line(status, err)
+        }
     }
-    match err.put(line) {
+}
+
+fn put_line<E: Sink>(status: Status, err: &mut E) -> Status
+    requires { HasLine status }
+    ensures { Reports (E.written err.old) (E.written err.new) (E.faults err.old) (E.faults err.new) status result }
+{
+    match err.put(status.line()) {
         Ok(()) => status,
         Err(Failed) => Status::WriteFault,
     }
+}
+
+// The whole run, but for what it leaves alone.
+fn respond<F: Folder, K: Clock, O: Sink, E: Sink>(
+    alloc: Global,
+    words: &[String],
+    folder: &mut F,
+    clock: &mut K,
+    salt: u128,
+    out: &mut O,
+    err: &mut E,
+) -> Status
+    ensures ok { result ≡ Status.Ok → OfCommand (map string_bytes words.now) (λ command. LoadPrints Adds (F.files folder.old) command salt (K.last clock.new) (O.written out.old) (O.written out.new)) }
+    ensures not_completed { result ≡ Status.JobNotCompleted → Written (O.written out.old) (O.written out.new) (Adds (failed_line salt)) }
+    ensures failed { result ≡ Status.JobNotCompleted → Rose (F.faults folder.old) (F.faults folder.new) }
+    ensures usage { result ≡ Status.Usage → asked (map string_bytes words.now) ≡ None }
+    ensures not_built { result ≡ Status.NotBuilt → OfCommand (map string_bytes words.now) (IsNotBuilt (F.files folder.old)) }
+    ensures quiet { (result ≡ Status.Usage) ⊎ (result ≡ Status.NotBuilt) ⊎ (result ≡ Status.NoMemory) → O.written out.new ≡ O.written out.old }
+    ensures write_fault { result ≡ Status.WriteFault → Rose (O.faults out.old) (O.faults out.new) ⊎ Rose (E.faults err.old) (E.faults err.new) }
+    ensures front { result ≡ Status.WriteFault → EndsInFront (F.files folder.old) (map string_bytes words.now) salt (K.last clock.new) (O.written out.old) (O.written out.new) }
+    ensures line { (result ≡ Status.WriteFault) ⊎ Written (E.written err.old) (E.written err.new) (Adds (line_of result)) }
+    ensures files { F.files folder.new ≡ F.files folder.old }
+{
+    let status = answer(alloc, words, folder, clock, salt, out);
+    report(status, err)
 }
 
 /// Runs the words behind ROOT and STORE over a folder, three disks, a clock and streams, and gives
@@ -208,14 +241,19 @@ pub fn run<R: Threads + Sync, F: Folder, D: Disk, K: Clock, S: Source, O: Sink, 
     ensures not_completed { result.0 ≡ Status.JobNotCompleted → Written (O.written out.old) (O.written out.new) (Adds (failed_line salt)) }
     ensures failed { result.0 ≡ Status.JobNotCompleted → Rose (F.faults folder.old) (F.faults folder.new) }
 
-    // Usage exactly where the words are outside the grammar, and NotBuilt only where the file isn't
-    // loaded so far. Then nothing is written on the output, nor where memory ran out.
+    // Usage only where the words are outside the grammar, NotBuilt only where the file isn't loaded
+    // so far. Nothing is written on the output then, nor where memory ran out.
     ensures usage { result.0 ≡ Status.Usage → asked (map string_bytes words.now) ≡ None }
     ensures not_built { result.0 ≡ Status.NotBuilt → OfCommand (map string_bytes words.now) (IsNotBuilt (F.files folder.old)) }
     ensures quiet { (result.0 ≡ Status.Usage) ⊎ (result.0 ≡ Status.NotBuilt) ⊎ (result.0 ≡ Status.NoMemory) → O.written out.new ≡ O.written out.old }
 
     // A write fault only where a sink failed. The output is then a front of what it was to be.
     ensures write_fault { result.0 ≡ Status.WriteFault → Rose (O.faults out.old) (O.faults out.new) ⊎ Rose (E.faults err.old) (E.faults err.new) }
+    ensures front { result.0 ≡ Status.WriteFault → EndsInFront (F.files folder.old) (map string_bytes words.now) salt (K.last clock.new) (O.written out.old) (O.written out.new) }
+
+    // Where no count rose, each answer comes for its cause, or memory ran out.
+    ensures complete { IsQuiet (F.faults folder.old) (F.faults folder.new) (O.faults out.old) (O.faults out.new) (E.faults err.old) (E.faults err.new)
+        → IsAnswer (F.files folder.old) (asked (map string_bytes words.now)) result.0 }
 
     // The line of the status, and what stays as it was.
     ensures line { (result.0 ≡ Status.WriteFault) ⊎ Written (E.written err.old) (E.written err.new) (Adds (line_of result.0)) }
@@ -224,6 +262,6 @@ pub fn run<R: Threads + Sync, F: Folder, D: Disk, K: Clock, S: Source, O: Sink, 
     ensures files { F.files folder.new ≡ F.files folder.old }
 {
     let _ = input;
-    let status = answer(alloc, words, folder, clock, salt, out);
-    (report(status, err), disks)
+    let status = respond(alloc, words, folder, clock, salt, out, err);
+    (status, disks)
 }
