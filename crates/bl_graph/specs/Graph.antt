@@ -1,7 +1,7 @@
 -- A property graph, as finite maps.
-use Rattle.std.specs.Prelude.{ℕ, Bool, ◌&&◌, List, is_some, Some, None}
+use Rattle.std.specs.Prelude.{ℕ, Bool, List}
 use Rattle.std.specs.declared.option.Option.{Option}
-use Rattle.std.specs.Option.{option_and_then, unwrap_or}
+use Rattle.std.specs.Option.{unwrap_or}
 use Rattle.std.specs.Ordering.{nat_cmp}
 use Rattle.std.specs.Cmp.Lexicographic.{slice_cmp}
 use Rattle.std.specs.FinMap as map
@@ -46,9 +46,13 @@ empty = record { labels = map.empty; edges = map.empty; vertex_values = map.empt
 abbrev pub has_vertex : Graph → List ℕ → Bool
 has_vertex graph id = map.contains_key graph.labels id
 
+-- the texts at one key
+abbrev pub texts_at : ByText Texts → List ℕ → Texts
+texts_at all key = unwrap_or (map.get all key) set.empty
+
 -- the labels of a vertex, none where it isn't there
 abbrev pub labels_of : Graph → List ℕ → Texts
-labels_of graph id = unwrap_or (map.get graph.labels id) set.empty
+labels_of graph id = texts_at graph.labels id
 
 abbrev pub edge_of : Graph → List ℕ → Option Ends
 edge_of graph id = map.get graph.edges id

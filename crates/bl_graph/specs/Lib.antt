@@ -1,3 +1,5 @@
 pub mod Graph
 pub mod Replay
 pub mod Admission
+pub mod Plain
+pub mod Codes

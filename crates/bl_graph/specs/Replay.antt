@@ -1,13 +1,12 @@
 -- Single changes, and lists of them, applied to a graph.
-use Rattle.std.specs.Prelude.{ℕ, ◌==◌, Bool, true, false, not, ◌&&◌, ◌||◌, if◌then◌else◌, List, [], ◌∷◌, is_none}
+use Rattle.std.specs.Prelude.{ℕ, ◌==◌, Bool, true, not, ◌&&◌, if◌then◌else◌, List, [], ◌∷◌, is_none}
 use Rattle.std.specs.FinMap as map
 use Rattle.std.specs.FinSet as set
-use Rattle.bl_value.specs.declared.value.Value.{Value}
 use Rattle.bl_value.specs.declared.column.Side.{Side}
 use Rattle.bl_value.specs.declared.column.Side.TheVariants.{Vertex, Edge}
 use Rattle.bl_value.specs.declared.change.Change.{Change}
 use Rattle.bl_value.specs.declared.change.Change.TheVariants.{AddLabel, AddEdge, AddValue, RemoveValue}
-use Rattle.bl_graph.specs.Graph.{Graph, Values, ByText, Properties, empty, has_vertex, labels_of, edge_of, has_owner, properties, with_properties, keys_in, at_key, values_at}
+use Rattle.bl_graph.specs.Graph.{Graph, Values, ByText, Properties, has_vertex, labels_of, edge_of, has_owner, properties, with_properties, keys_in, values_at}
 
 -- No key stays with no value, and no owner with no key.
 abbrev pub with_values : ByText Values → List ℕ → Values → ByText Values
@@ -16,10 +15,13 @@ with_values keys key values = if set.len values == 0 then map.remove keys key el
 abbrev pub with_keys : Properties → List ℕ → ByText Values → Properties
 with_keys all id keys = if map.len keys == 0 then map.remove all id else map.insert all id keys
 
+-- other values at one key of one vertex or edge
+abbrev pub with_values_in : Properties → List ℕ → List ℕ → Values → Properties
+with_values_in all id key values = with_keys all id (with_values (keys_in all id) key values)
+
 -- the graph with other values at one key
 abbrev pub with_values_at : Graph → Side → List ℕ → List ℕ → Values → Graph
-with_values_at graph side id key values =
-    with_properties graph side (with_keys (properties graph side) id (with_values (keys_in (properties graph side) id) key values))
+with_values_at graph side id key values = with_properties graph side (with_values_in (properties graph side) id key values)
 
 -- the graph after one change
 abbrev pub after_one : Graph → Change → Graph

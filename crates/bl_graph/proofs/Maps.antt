@@ -1,0 +1,51 @@
+-- Facts on the maps of a graph.
+use Rattle.std.specs.Prelude.{◌≡◌, ◌≢◌, ◌==◌, ℕ, Bool, true, false, ◌||◌, List, Some, is_some, refl}
+use Rattle.std.specs.declared.option.Option.{Option}
+use Rattle.std.specs.declared.cmp.Ordering.{Ordering}
+use Rattle.std.specs.Option.{unwrap_or}
+use Rattle.std.proofs.Common.{sym, ap, ◌∙◌, cond, if◌then◌else◌}
+use Rattle.std.proofs.lemmas.Bool.{false≢true}
+use Rattle.std.specs.Ordering.{nat_cmp, eq_by_cmp, is_eq}
+use Rattle.std.specs.Cmp.{IsTotalOrder, tied_itself}
+use Rattle.std.specs.Cmp.Lexicographic.{slice_cmp, nat_list_cmp_total}
+use Rattle.std.specs.FinMap as map
+use Rattle.std.specs.FinSet as set
+use borrow.Author.Tests.{eqb-true}
+use Rattle.bl_value.specs.Order.{value_cmp}
+use Rattle.bl_value.specs.declared.value.Value.{Value}
+use Rattle.bl_graph.specs.Graph.{Values, ByText, Properties, at_key}
+use Rattle.bl_graph.specs.Replay.{with_values, with_keys}
+use Rattle.bl_graph.proofs.ValueOrder.{value_cmp_total}
+
+-- no key has a value where there are no keys
+pub none_at_key : (key : List ℕ) (value : Value) → set.contains (at_key map.empty key) value ≡ false
+none_at_key key value =
+    ap (λ (o : Option Values). set.contains (unwrap_or o set.empty) value) (map.get-empty (slice_cmp nat_cmp) key)
+    ∙ set.contains-empty value_cmp value
+
+unless_zero : (n : ℕ) (test : Bool) → (n == 0) ≡ test → n ≢ 0 → test ≡ false
+unless_zero n true h = λ no. absurd (no (eqb-true n 0 h))
+unless_zero n false h = λ no. refl
+
+module _ {K : Type 0} {R : K → K → Ordering} (o : IsTotalOrder R) where
+  itself : (k : K) → eq_by_cmp R k k ≡ true
+  itself k = ap is_eq (tied_itself o k)
+
+  -- a set with one item more isn't empty
+  pub set_with : (s : set.FinSet R) (k : K) → (set.len (set.insert s k) == 0) ≡ false
+  set_with s k = unless_zero _ _ refl (λ none. false≢true
+      (sym (set.contains-empty R k) ∙ ap (λ t. set.contains t k) (sym (set.empty_of_len (set.insert s k) none))
+      ∙ set.contains-insert o s k k ∙ ap (λ b. b || set.contains s k) (itself k)))
+
+  -- a map with one entry more isn't empty
+  pub map_with : {X : Type 0} (m : map.FinMap R X) (k : K) (x : X) → (map.len (map.insert m k x) == 0) ≡ false
+  map_with m k x = unless_zero _ _ refl (λ none. false≢true
+      (ap is_some (sym (map.get-empty R k)) ∙ ap (λ n. is_some (map.get n k)) (sym (map.empty_of_len (map.insert m k x) none))
+      ∙ ap is_some (map.get-insert o m k x k ∙ ap (λ b. cond b (Some x) (map.get m k)) (itself k))))
+
+-- a value more leaves no key and no owner empty
+pub with_added : (all : Properties) (id : List ℕ) (keys : ByText Values) (key : List ℕ) (values : Values) (value : Value) →
+    with_keys all id (with_values keys key (set.insert values value)) ≡ map.insert all id (map.insert keys key (set.insert values value))
+with_added all id keys key values value =
+    ap (λ b. with_keys all id (if b then map.remove keys key else map.insert keys key (set.insert values value))) (set_with value_cmp_total values value)
+    ∙ ap (λ b. if b then map.remove all id else map.insert all id (map.insert keys key (set.insert values value))) (map_with nat_list_cmp_total keys key (set.insert values value))

@@ -1,0 +1,26 @@
+use Rattle.std.proofs.Common.{refl, sym, ap, subst, ◌∙◌}
+use Rattle.std.specs.Option.{IsSome}
+use Rattle.std.proofs.lemmas.Result.{on_ok_weaker, on_err_weaker}
+use Rattle.std.specs.FinMap as map
+use Rattle.std.specs.FinSet as set
+use Rattle.bl_outside.proofs.Finite.{write_some, write_none, write_same}
+use Rattle.bl_graph.specs.Graph.{keys_in, at_key}
+use Rattle.bl_graph.proofs.Maps.{with_added}
+use Rattle.bl_graph.proofs.owned_values.OwnedValues.insert.Goals as goal
+
+pub returns-in-Some-clause-ok : goal.returns-in-Some-clause-ok
+returns-in-Some-clause-ok c = on_ok_weaker c.insert.result (λ e.
+    write_some c.self.inside.owners.entries c.args.self.now c.self.view_is c.args.id.now (c.get_mut.follows.lender c.insert.new.self).entries map.empty c.in-Some.keys.now c.insert.new.self (λ m. map.insert m c.args.key.now (set.insert (at_key m c.args.key.now) c.args.value.now)) c.in-Some.ensures.value
+    ((c.get_mut.follows.holds c.insert.new.self).3 (subst IsSome c.in-Some.ensures.value refl)).0 e
+    ∙ sym (with_added c.args.self.now c.args.id.now (keys_in c.args.self.now c.args.id.now) c.args.key.now (at_key (keys_in c.args.self.now c.args.id.now) c.args.key.now) c.args.value.now)) c.insert.ensures.ok
+
+pub returns-in-Some-clause-err : goal.returns-in-Some-clause-err
+returns-in-Some-clause-err c = on_err_weaker c.insert.result (λ e.
+    write_same c.self.inside.owners.entries c.args.self.now c.self.view_is c.args.id.now (c.get_mut.follows.lender c.insert.new.self).entries c.in-Some.keys.now c.insert.new.self c.in-Some.ensures.value
+    ((c.get_mut.follows.holds c.insert.new.self).3 (subst IsSome c.in-Some.ensures.value refl)).0 e) c.insert.ensures.err
+
+pub returns-in_ok-insert-in-None-clause-ok : goal.returns-in_ok-insert-in-None-clause-ok
+returns-in_ok-insert-in-None-clause-ok c =
+    write_none c.self.inside.owners.entries c.args.self.now c.self.view_is c.args.id.now (c.get_mut.follows.lender-at-none).entries c.insert-in-None.new.self.entries c.in_ok-copy-in-None.field-0 map.empty c.in_ok-keys-in-None.keys (λ m. map.insert m c.args.key.now (set.insert (at_key m c.args.key.now) c.args.value.now)) c.in-None.ensures.value
+    (ap (λ b. b.entries) c.get_mut.follows.holds-at-none) c.in_ok-copy-in-None.ensures c.in_ok-insert-in-None.ensures.updates.0 c.in_ok-keys-in-None.ensures
+    ∙ sym (with_added c.args.self.now c.args.id.now (keys_in c.args.self.now c.args.id.now) c.args.key.now (at_key (keys_in c.args.self.now c.args.id.now) c.args.key.now) c.args.value.now)

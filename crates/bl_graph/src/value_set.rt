@@ -1,0 +1,60 @@
+// A set of values.
+ghost use Rattle.std.specs.Prelude.{◌≡◌, IfOk, OnOk, OnErr};
+ghost use Rattle.std.specs.FinSet as set;
+
+use bl_outside::NoMemory;
+use bl_value::Value;
+use std::alloc::Global;
+use std::collections::BTreeSet;
+use std::marker::Model;
+
+/// Values, each once.
+#[derive(Drop)]
+pub struct ValueSet {
+    values: BTreeSet<Value>,
+}
+
+impl Model for ValueSet {
+    ghost use Rattle.std.specs.FinSet as set;
+    ghost use Rattle.bl_graph.specs.Codes.{values_code};
+    ghost use Rattle.bl_graph.specs.Graph.{Values};
+
+    ghost Value = { Values };
+
+    ghost coded = { values_code };
+
+    ghost view = { λ a. set.from_list a.values.keys };
+}
+
+impl ValueSet {
+    pub fn new(alloc: Global) -> ValueSet
+        ensures { result ≡ set.empty }
+    {
+        ValueSet {
+            values: BTreeSet::new(alloc),
+        }
+    }
+
+    /// The set of one value.
+    pub fn of(alloc: Global, value: Value) -> Result<ValueSet, NoMemory>
+        ensures { IfOk result (λ it. it ≡ set.insert set.empty value) }
+    {
+        let mut it = ValueSet::new(alloc);
+        it.insert(value)?;
+        Ok(it)
+    }
+
+    pub fn contains(&self, value: &Value) -> bool
+        ensures { result ≡ set.contains self.now value.now }
+    {
+        self.values.contains(value)
+    }
+
+    pub fn insert(&mut self, value: Value) -> Result<(), NoMemory>
+        ensures ok { OnOk result (self.new ≡ set.insert self.old value) }
+        ensures err { OnErr result (self.new ≡ self.old) }
+    {
+        self.values.insert(value)?;
+        Ok(())
+    }
+}
