@@ -1,4 +1,4 @@
 pub mod Replayed
 mod ValueOrder
 mod Maps
-mod Sets
+mod Conflicts

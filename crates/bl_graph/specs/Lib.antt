@@ -1,5 +1,4 @@
 pub mod Graph
 pub mod Replay
 pub mod Admission
-pub mod Plain
 pub mod Codes

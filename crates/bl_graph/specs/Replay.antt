@@ -1,7 +1,7 @@
 -- Single changes, and lists of them, applied to a graph.
 use Rattle.std.specs.Prelude.{ℕ, ◌==◌, Bool, true, not, ◌&&◌, if◌then◌else◌, List, [], ◌∷◌, is_none}
 use Rattle.std.specs.FinMap as map
-use Rattle.std.specs.FinSet as set
+use Rattle.bl_outside.specs.OrderedSet as set
 use Rattle.bl_value.specs.declared.column.Side.{Side}
 use Rattle.bl_value.specs.declared.column.Side.TheVariants.{Vertex, Edge}
 use Rattle.bl_value.specs.declared.change.Change.{Change}

@@ -11,6 +11,8 @@
 mod admission;
 mod edges;
 mod graph;
+mod element_changes;
+mod property_changes;
 mod keyed_values;
 mod owned_values;
 mod text_set;
@@ -18,7 +20,7 @@ mod value_set;
 mod verdict;
 mod vertices;
 
-use edges::Edges;
+use edges::{EdgeEnds, Edges};
 pub use graph::Graph;
 use keyed_values::KeyedValues;
 use owned_values::OwnedValues;
@@ -26,6 +28,3 @@ use text_set::TextSet;
 use value_set::ValueSet;
 pub use verdict::Verdict;
 use vertices::Vertices;
-
-#[cfg(test)]
-mod tests;
