@@ -29,12 +29,7 @@ impl Model for EdgeEnds {
 }
 
 impl EdgeEnds {
-    pub fn of(
-        alloc: Global,
-        label: &Text,
-        from: &Text,
-        to: &Text,
-    ) -> Result<EdgeEnds, NoMemory>
+    pub fn of(alloc: Global, label: &Text, from: &Text, to: &Text) -> Result<EdgeEnds, NoMemory>
         ensures { IfOk result (λ ends. ends ≡ record { label = label.now; from = from.now; to = to.now }) }
     {
         Ok(EdgeEnds {

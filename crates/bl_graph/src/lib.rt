@@ -10,11 +10,11 @@
 
 mod admission;
 mod edges;
-mod graph;
 mod element_changes;
-mod property_changes;
+mod graph;
 mod keyed_values;
 mod owned_values;
+mod property_changes;
 mod text_set;
 mod value_set;
 mod verdict;
@@ -28,3 +28,6 @@ use text_set::TextSet;
 use value_set::ValueSet;
 pub use verdict::Verdict;
 use vertices::Vertices;
+
+#[cfg(test)]
+mod tests;

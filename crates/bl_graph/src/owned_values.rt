@@ -78,12 +78,7 @@ impl OwnedValues {
 }
 
 // Removes a value of an owner. True where none is left of it.
-fn remove_of(
-    owners: &mut BTreeMap<Text, KeyedValues>,
-    id: &Text,
-    key: &Text,
-    value: &Value,
-) -> bool
+fn remove_of(owners: &mut BTreeMap<Text, KeyedValues>, id: &Text, key: &Text, value: &Value) -> bool
     ensures empty { result ≡ (map.len (with_values (keys_in (by_text owners.old.entries) id.now) key.now (set.remove (at_key (keys_in (by_text owners.old.entries) id.now) key.now) value.now)) == 0) }
     ensures left { result ≡ false → by_text owners.new.entries ≡ map.insert (by_text owners.old.entries) id.now (with_values (keys_in (by_text owners.old.entries) id.now) key.now (set.remove (at_key (keys_in (by_text owners.old.entries) id.now) key.now) value.now)) }
     ensures others { without (by_text owners.new.entries) id.now ≡ without (by_text owners.old.entries) id.now }
