@@ -2,3 +2,8 @@ pub mod Replayed
 mod ValueOrder
 mod Maps
 mod Conflicts
+mod Lenses
+mod Apart
+mod Fitting
+mod FittingRows
+pub mod Admitted

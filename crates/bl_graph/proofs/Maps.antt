@@ -27,7 +27,7 @@ unless_zero n true h = λ no. absurd (no (eqb-true n 0 h))
 unless_zero n false h = λ no. refl
 
 module _ {K : Type 0} {R : K → K → Ordering} (o : IsTotalOrder R) where
-  itself : (k : K) → eq_by_cmp R k k ≡ true
+  pub itself : (k : K) → eq_by_cmp R k k ≡ true
   itself k = ap is_eq (tied_itself o k)
 
   -- a set with one item more isn't empty

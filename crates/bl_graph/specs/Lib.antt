@@ -1,4 +1,5 @@
 pub mod Graph
 pub mod Replay
 pub mod Admission
+pub mod Admitted
 pub mod Codes

@@ -1,6 +1,7 @@
 // What a row does to the graph.
 ghost use Rattle.std.specs.Prelude.{◌≡◌, IfOk};
 ghost use Rattle.bl_graph.specs.Admission.{admit, changed, edge_refusal};
+ghost use Rattle.bl_graph.specs.Admitted.{DoesFit, IsProperRow};
 ghost use Rattle.bl_graph.specs.Graph.{edge_of};
 
 use crate::{Graph, Verdict};
@@ -19,8 +20,16 @@ fn verdict_of(changes: List<Change>) -> Verdict
 }
 
 impl Graph {
-    /// What the row does to the graph, which stays as it is.
+    /// What the row does to the graph, which stays as it is. The changes of a proper row may be
+    /// applied, each in turn.
     pub fn admit(&self, update_single: bool, row: &Row) -> Result<Verdict, NoMemory>
+        ensures verdict { IfOk result (λ verdict. verdict ≡ admit self.now update_single row.now) }
+        ensures fit { IfOk result (λ verdict. IsProperRow row.now → DoesFit self.now verdict) }
+    {
+        self.admit_row(update_single, row)
+    }
+
+    fn admit_row(&self, update_single: bool, row: &Row) -> Result<Verdict, NoMemory>
         ensures { IfOk result (λ verdict. verdict ≡ admit self.now update_single row.now) }
     {
         match row {
