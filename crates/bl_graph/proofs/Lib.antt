@@ -1,4 +1,9 @@
 pub mod Replayed
 mod ValueOrder
 mod Maps
-mod Sets
+mod Conflicts
+mod Lenses
+mod Apart
+mod Fitting
+mod FittingRows
+pub mod Admitted

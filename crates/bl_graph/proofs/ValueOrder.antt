@@ -1,5 +1,5 @@
 -- Sets of values: the order of values is total, and tells all values apart.
-use Rattle.std.specs.Prelude.{◌≡◌, Bool as Truth, true, false, not, cond, List, refl}
+use Rattle.std.specs.Prelude.{◌≡◌, Bool as Truth, true, false, cond, List, length, refl}
 use Rattle.std.proofs.Common.{subst, sym, ap, ◌∙◌}
 use Rattle.std.specs.declared.cmp.Ordering.{Ordering}
 use Rattle.std.specs.declared.cmp.Ordering.TheVariants.{Equal}
@@ -8,9 +8,10 @@ use Rattle.std.specs.BTreeMap.{is_at}
 use Rattle.std.specs.Cmp.{IsTotalOrder}
 use Rattle.std.specs.Ordering.{bool_cmp}
 use Rattle.std.specs.FinMap.{IsAntisymmetric}
-use Rattle.std.specs.FinSet as set
+use Rattle.bl_outside.specs.OrderedSet as set
 use Rattle.std.proofs.lemmas.Map.Lookups.{exact_bytes, exact_signed}
-use Rattle.bl_outside.proofs.Finite.{has_key, add_key, take_key}
+use Rattle.std.specs.List.Sorted.{IsStrictlySortedBy}
+use Rattle.bl_outside.proofs.Finite.{has_key, add_key, take_key, items_stay, set_len_stays}
 use Rattle.bl_value.specs.Order.{value_cmp}
 use Rattle.bl_value.specs.declared.value.Value.{Value}
 use Rattle.bl_value.specs.declared.value.Value.TheVariants.{Bool, Byte, Short, Int, Long, Str, Date}
@@ -64,3 +65,10 @@ given_value ks ls k h = add_key value_cmp_total exact_values ks ls k (subst (λ 
 -- keys without one make the set without it
 pub taken_value : (ks ls : List Value) (k : Value) → ((q : Value) → list_any (is_at (derived q)) ls ≡ cond (is_at (derived k) q) false (list_any (is_at (derived q)) ks)) → set.from_list {R = value_cmp} ls ≡ set.remove (set.from_list ks) k
 taken_value ks ls k h = take_key value_cmp_total exact_values ks ls k (subst (λ R. (q : Value) → list_any (is_at (R q)) ls ≡ cond (is_at (R k) q) false (list_any (is_at (R q)) ks)) derived-is h)
+
+-- keys in order are the items of their set
+pub values_in_order : (ks : List Value) → IsStrictlySortedBy derived ks → set.items (set.from_list {R = value_cmp} ks) ≡ ks
+values_in_order ks h = items_stay value_cmp_total ks (subst (λ R. IsStrictlySortedBy R ks) derived-is h)
+
+pub values_counted : (ks : List Value) → IsStrictlySortedBy derived ks → set.len (set.from_list {R = value_cmp} ks) ≡ length ks
+values_counted ks h = set_len_stays value_cmp_total ks (subst (λ R. IsStrictlySortedBy R ks) derived-is h)

@@ -1,26 +1,33 @@
 -- A property graph, as finite maps.
-use Rattle.std.specs.Prelude.{ℕ, Bool, ◌&&◌, List, is_some, Some, None}
+use Rattle.std.specs.Prelude.{ℕ, Bool, List}
 use Rattle.std.specs.declared.option.Option.{Option}
-use Rattle.std.specs.Option.{option_and_then, unwrap_or}
+use Rattle.std.specs.Option.{unwrap_or}
 use Rattle.std.specs.Ordering.{nat_cmp}
 use Rattle.std.specs.Cmp.Lexicographic.{slice_cmp}
 use Rattle.std.specs.FinMap as map
-use Rattle.std.specs.FinSet as set
+use Rattle.bl_outside.specs.OrderedSet as set
 use Rattle.bl_value.specs.Order.{value_cmp}
 use Rattle.bl_value.specs.declared.column.Side.{Side}
 use Rattle.bl_value.specs.declared.column.Side.TheVariants.{Vertex, Edge}
 
 -- a set of texts
 abbrev pub Texts : Type 0
-Texts = set.FinSet (slice_cmp nat_cmp)
+Texts = set.OrderedSet (slice_cmp nat_cmp)
 
 -- a set of values
 abbrev pub Values : Type 0
-Values = set.FinSet value_cmp
+Values = set.OrderedSet value_cmp
 
 -- a map from texts
 abbrev pub ByText : Type 0 → Type 0
 ByText X = map.FinMap (slice_cmp nat_cmp) X
+
+-- the map of some entries
+abbrev pub by_text : {X : Type 0} → List (List ℕ × X) → ByText X
+by_text entries = map.from_entries entries
+
+abbrev pub without : {X : Type 0} → ByText X → List ℕ → ByText X
+without all key = map.remove all key
 
 -- an edge's label and its two ends
 pub record Ends : Type 0 where

@@ -1,5 +1,5 @@
 pub mod Graph
 pub mod Replay
 pub mod Admission
-pub mod Plain
+pub mod Admitted
 pub mod Codes

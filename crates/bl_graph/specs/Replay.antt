@@ -1,13 +1,12 @@
 -- Single changes, and lists of them, applied to a graph.
-use Rattle.std.specs.Prelude.{ℕ, ◌==◌, Bool, true, false, not, ◌&&◌, ◌||◌, if◌then◌else◌, List, [], ◌∷◌, is_none}
+use Rattle.std.specs.Prelude.{ℕ, ◌==◌, Bool, true, not, ◌&&◌, if◌then◌else◌, List, [], ◌∷◌, is_none}
 use Rattle.std.specs.FinMap as map
-use Rattle.std.specs.FinSet as set
-use Rattle.bl_value.specs.declared.value.Value.{Value}
+use Rattle.bl_outside.specs.OrderedSet as set
 use Rattle.bl_value.specs.declared.column.Side.{Side}
 use Rattle.bl_value.specs.declared.column.Side.TheVariants.{Vertex, Edge}
 use Rattle.bl_value.specs.declared.change.Change.{Change}
 use Rattle.bl_value.specs.declared.change.Change.TheVariants.{AddLabel, AddEdge, AddValue, RemoveValue}
-use Rattle.bl_graph.specs.Graph.{Graph, Values, ByText, Properties, empty, has_vertex, labels_of, edge_of, has_owner, properties, with_properties, keys_in, at_key, values_at}
+use Rattle.bl_graph.specs.Graph.{Graph, Values, ByText, Properties, has_vertex, labels_of, edge_of, has_owner, properties, with_properties, keys_in, values_at}
 
 -- No key stays with no value, and no owner with no key.
 abbrev pub with_values : ByText Values → List ℕ → Values → ByText Values

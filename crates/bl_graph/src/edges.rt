@@ -1,8 +1,10 @@
 // The edges, each with its label and its ends.
-ghost use Rattle.std.specs.Prelude.{◌≡◌};
+ghost use Rattle.std.specs.Prelude.{◌≡◌, IfOk, OnOk, OnErr};
 ghost use Rattle.std.specs.FinMap as map;
+ghost use Rattle.std.specs.Option.{option_copied};
+ghost use Rattle.bl_graph.specs.Admission.{is_edge};
 
-use bl_outside::Text;
+use bl_outside::{NoMemory, Text};
 use std::alloc::Global;
 use std::collections::BTreeMap;
 use std::marker::Model;
@@ -24,6 +26,33 @@ impl Model for EdgeEnds {
     ghost coded = { ends_code };
 
     ghost view = { λ a. record { label = a.label; from = a.from; to = a.to } };
+}
+
+impl EdgeEnds {
+    pub fn of(alloc: Global, label: &Text, from: &Text, to: &Text) -> Result<EdgeEnds, NoMemory>
+        ensures { IfOk result (λ ends. ends ≡ record { label = label.now; from = from.now; to = to.now }) }
+    {
+        Ok(EdgeEnds {
+            label: label.copy(alloc)?,
+            from: from.copy(alloc)?,
+            to: to.copy(alloc)?,
+        })
+    }
+
+    pub fn is(&self, label: &Text, from: &Text, to: &Text) -> bool
+        ensures { result ≡ is_edge self.now label.now from.now to.now }
+    {
+        self.label == *label && self.from == *from && self.to == *to
+    }
+
+    /// The label, and the ends.
+    pub fn parts(&self) -> (&Text, &Text, &Text)
+        ensures label { result.0.now ≡ self.now.label }
+        ensures from { result.1.now ≡ self.now.from }
+        ensures to { result.2.now ≡ self.now.to }
+    {
+        (&self.label, &self.from, &self.to)
+    }
 }
 
 /// Edges by their ids.
@@ -53,5 +82,26 @@ impl Edges {
             alloc,
             edges: BTreeMap::new(alloc),
         }
+    }
+
+    pub fn get(&self, id: &Text) -> Option<&EdgeEnds>
+        ensures { option_copied result ≡ map.get self.now id.now }
+    {
+        self.edges.get(id)
+    }
+
+    pub fn insert(
+        &mut self,
+        id: &Text,
+        label: &Text,
+        from: &Text,
+        to: &Text,
+    ) -> Result<(), NoMemory>
+        ensures ok { OnOk result (self.new ≡ map.insert self.old id.now (record { label = label.now; from = from.now; to = to.now })) }
+        ensures err { OnErr result (self.new ≡ self.old) }
+    {
+        let ends = EdgeEnds::of(self.alloc, label, from, to)?;
+        self.edges.insert(id.copy(self.alloc)?, ends)?;
+        Ok(())
     }
 }

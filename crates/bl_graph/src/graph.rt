@@ -1,12 +1,12 @@
 // The property graph, and the change applied.
-ghost use Rattle.std.specs.Prelude.{◌≡◌, IfOk, OnOk, OnErr};
+ghost use Rattle.std.specs.Prelude.{◌≡◌, ◌==◌, true, OnOk, OnErr};
 ghost use Rattle.std.specs.FinMap as map;
-ghost use Rattle.std.specs.FinSet as set;
-ghost use Rattle.bl_graph.specs.Graph.{empty, has_vertex, labels_of, properties, values_at};
-ghost use Rattle.bl_graph.specs.Plain.{IsPlainChange};
-ghost use Rattle.bl_graph.specs.Replay.{after_one, fits};
+ghost use Rattle.bl_outside.specs.OrderedSet as set;
+ghost use Rattle.std.specs.Option.{option_copied, option_map, unwrap_or};
+ghost use Rattle.bl_graph.specs.Graph.{empty, has_owner, has_vertex, labels_of, edge_of, values_at};
+ghost use Rattle.bl_graph.specs.Replay.{after_one, fits, may_take};
 
-use crate::{Edges, OwnedValues, Vertices};
+use crate::{EdgeEnds, Edges, OwnedValues, ValueSet, Vertices};
 use bl_outside::{NoMemory, Text};
 use bl_value::{Change, Side, Value};
 use std::alloc::Global;
@@ -51,10 +51,27 @@ impl Graph {
         self.alloc
     }
 
-    pub(crate) fn has_vertex(&self, id: &Text) -> bool
+    /// Whether the vertex is there. It takes no memory.
+    pub fn has_vertex(&self, id: &Text) -> bool
         ensures { result ≡ has_vertex self.now id.now }
     {
         self.vertices.contains(id)
+    }
+
+    /// The label and the two ends, from and to, of an edge. It takes no memory.
+    pub fn edge(&self, id: &Text) -> Option<(&Text, &Text, &Text)>
+        ensures { option_map (λ parts. record { label = parts.0.now; from = parts.1.now; to = parts.2.now }) result ≡ edge_of self.now id.now }
+    {
+        match self.edges.get(id) {
+            Some(ends) => Some(ends.parts()),
+            None => None,
+        }
+    }
+
+    pub(crate) fn ends(&self, id: &Text) -> Option<&EdgeEnds>
+        ensures { option_copied result ≡ edge_of self.now id.now }
+    {
+        self.edges.get(id)
     }
 
     pub(crate) fn has_label(&self, id: &Text, label: &Text) -> bool
@@ -63,53 +80,110 @@ impl Graph {
         self.vertices.has_label(id, label)
     }
 
-    fn values(&self, side: Side) -> &OwnedValues
-        ensures { result.now ≡ properties self.now side }
+    pub(crate) fn values_at(&self, side: Side, id: &Text, key: &Text) -> Option<&ValueSet>
+        ensures { unwrap_or (option_copied result) set.empty ≡ values_at self.now side id.now key.now }
     {
         match side {
-            Side::Vertex => &self.vertex_values,
-            Side::Edge => &self.edge_values,
+            Side::Vertex => self.vertex_values.get(id, key),
+            Side::Edge => self.edge_values.get(id, key),
         }
     }
 
     pub(crate) fn has_value(&self, side: Side, id: &Text, key: &Text, value: &Value) -> bool
         ensures { result ≡ set.contains (values_at self.now side id.now key.now) value.now }
     {
-        self.values(side).contains(id, key, value)
+        match self.values_at(side, id, key) {
+            Some(values) => values.contains(value),
+            None => false,
+        }
+    }
+
+    fn has_owner(&self, side: Side, id: &Text) -> bool
+        ensures { result ≡ has_owner self.now side id.now }
+    {
+        match side {
+            Side::Vertex => self.has_vertex(id),
+            Side::Edge => self.ends(id).is_some(),
+        }
+    }
+
+    fn has_no_value(&self, side: Side, id: &Text, key: &Text) -> bool
+        ensures { result ≡ (set.len (values_at self.now side id.now key.now) == 0) }
+    {
+        match self.values_at(side, id, key) {
+            Some(values) => values.is_empty(),
+            None => true,
+        }
+    }
+
+    // Whether one value more may stand at the key.
+    fn may_take(&self, side: Side, id: &Text, key: &Text) -> bool
+        ensures { result ≡ may_take side (values_at self.now side id.now key.now) }
+    {
+        match side {
+            Side::Vertex => true,
+            Side::Edge => self.has_no_value(side, id, key),
+        }
     }
 
     /// Whether the change may be applied. It takes no memory.
     pub fn fits(&self, change: &Change) -> bool
-        requires plain { IsPlainChange change.now }
-        ensures fits { result ≡ fits self.now change.now }
+        ensures { result ≡ fits self.now change.now }
     {
         match change {
             Change::AddLabel { id, label } => !self.has_label(id, label),
+            Change::AddEdge { id, from, to, .. } => {
+                self.ends(id).is_none() && self.has_vertex(from) && self.has_vertex(to)
+            }
             Change::AddValue {
                 side,
                 id,
                 key,
                 value,
-            } => self.has_vertex(id) && !self.has_value(*side, id, key, value),
-            _ => unreachable!(),
+            } => {
+                self.has_owner(*side, id)
+                    && !self.has_value(*side, id, key, value)
+                    && self.may_take(*side, id, key)
+            }
+            Change::RemoveValue {
+                side,
+                id,
+                key,
+                value,
+            } => self.has_value(*side, id, key, value),
         }
     }
 
-    /// Applies a change. After want of memory the graph is as it was.
+    /// Applies a change that fits. After want of memory the graph is as it was. A removal takes no
+    /// memory.
     pub fn apply(&mut self, change: &Change) -> Result<(), NoMemory>
-        requires plain { IsPlainChange change.now }
+        requires { fits self.old change.now ≡ true }
         ensures ok { OnOk result (self.new ≡ after_one self.old change.now) }
         ensures err { OnErr result (self.new ≡ self.old) }
     {
         match change {
             Change::AddLabel { id, label } => self.vertices.add_label(id, label),
+            Change::AddEdge {
+                id,
+                label,
+                from,
+                to,
+            } => self.edges.insert(id, label, from, to),
             Change::AddValue {
                 side,
                 id,
                 key,
                 value,
             } => self.add_value(*side, id, key, value),
-            _ => unreachable!(),
+            Change::RemoveValue {
+                side,
+                id,
+                key,
+                value,
+            } => {
+                self.remove_value(*side, id, key, value);
+                Ok(())
+            }
         }
     }
 
@@ -126,6 +200,15 @@ impl Graph {
         match side {
             Side::Vertex => self.vertex_values.insert(id, key, value),
             Side::Edge => self.edge_values.insert(id, key, value),
+        }
+    }
+
+    fn remove_value(&mut self, side: Side, id: &Text, key: &Text, value: &Value)
+        ensures { self.new ≡ after_one self.old (Change.RemoveValue side id.now key.now value.now) }
+    {
+        match side {
+            Side::Vertex => self.vertex_values.remove(id, key, value),
+            Side::Edge => self.edge_values.remove(id, key, value),
         }
     }
 }

@@ -1,8 +1,10 @@
 // The values of one vertex or edge, by key.
-ghost use Rattle.std.specs.Prelude.{◌≡◌, IfOk, OnOk, OnErr};
+ghost use Rattle.std.specs.Prelude.{◌≡◌, ◌==◌, false, IfOk, OnOk, OnErr};
 ghost use Rattle.std.specs.FinMap as map;
-ghost use Rattle.std.specs.FinSet as set;
-ghost use Rattle.bl_graph.specs.Graph.{at_key};
+ghost use Rattle.bl_outside.specs.OrderedSet as set;
+ghost use Rattle.std.specs.Option.{option_copied, unwrap_or};
+ghost use Rattle.bl_graph.specs.Graph.{at_key, by_text, without};
+ghost use Rattle.bl_graph.specs.Replay.{with_values};
 
 use crate::ValueSet;
 use bl_outside::{NoMemory, Text};
@@ -49,13 +51,16 @@ impl KeyedValues {
         Ok(it)
     }
 
-    pub fn contains(&self, key: &Text, value: &Value) -> bool
-        ensures { result ≡ set.contains (at_key self.now key.now) value.now }
+    pub fn is_empty(&self) -> bool
+        ensures { result ≡ (map.len self.now == 0) }
     {
-        match self.keys.get(key) {
-            Some(values) => values.contains(value),
-            None => false,
-        }
+        self.keys.len() == 0
+    }
+
+    pub fn get(&self, key: &Text) -> Option<&ValueSet>
+        ensures { unwrap_or (option_copied result) set.empty ≡ at_key self.now key.now }
+    {
+        self.keys.get(key)
     }
 
     pub fn insert(&mut self, key: &Text, value: &Value) -> Result<(), NoMemory>
@@ -71,5 +76,30 @@ impl KeyedValues {
                 Ok(())
             }
         }
+    }
+
+    /// Removes a value, and the key after its last one. It takes no memory.
+    pub fn remove(&mut self, key: &Text, value: &Value)
+        ensures { self.new ≡ with_values self.old key.now (set.remove (at_key self.old key.now) value.now) }
+    {
+        if !remove_at(&mut self.keys, key, value) {
+            return;
+        }
+        self.keys.remove(key);
+    }
+}
+
+// Removes a value at a key. True where none is left there.
+fn remove_at(keys: &mut BTreeMap<Text, ValueSet>, key: &Text, value: &Value) -> bool
+    ensures empty { result ≡ (set.len (set.remove (at_key (by_text keys.old.entries) key.now) value.now) == 0) }
+    ensures left { result ≡ false → by_text keys.new.entries ≡ map.insert (by_text keys.old.entries) key.now (set.remove (at_key (by_text keys.old.entries) key.now) value.now) }
+    ensures others { without (by_text keys.new.entries) key.now ≡ without (by_text keys.old.entries) key.now }
+{
+    match keys.get_mut(key) {
+        Some(values) => {
+            values.remove(value);
+            values.is_empty()
+        }
+        None => true,
     }
 }

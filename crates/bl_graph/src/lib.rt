@@ -8,25 +8,26 @@
 //! `specs/Admission` (what a row does). This crate stands on `bl_value`.
 #![tactic(auto)]
 
-mod verdict;
-mod text_set;
-mod value_set;
+mod admission;
+mod edges;
+mod element_changes;
+mod graph;
 mod keyed_values;
 mod owned_values;
+mod property_changes;
+mod text_set;
+mod value_set;
+mod verdict;
 mod vertices;
-mod edges;
-mod graph;
-mod admission;
 
-use edges::Edges;
+use edges::{EdgeEnds, Edges};
+pub use graph::Graph;
 use keyed_values::KeyedValues;
 use owned_values::OwnedValues;
 use text_set::TextSet;
 use value_set::ValueSet;
-use vertices::Vertices;
-
-pub use graph::Graph;
 pub use verdict::Verdict;
+use vertices::Vertices;
 
 #[cfg(test)]
 mod tests;

@@ -1,11 +1,12 @@
 // The values of all vertices, or of all edges, by owner and key.
-ghost use Rattle.std.specs.Prelude.{◌≡◌, OnOk, OnErr};
+ghost use Rattle.std.specs.Prelude.{◌≡◌, ◌==◌, false, OnOk, OnErr};
 ghost use Rattle.std.specs.FinMap as map;
-ghost use Rattle.std.specs.FinSet as set;
-ghost use Rattle.bl_graph.specs.Graph.{at_key, keys_in};
-ghost use Rattle.bl_graph.specs.Replay.{with_values_in};
+ghost use Rattle.bl_outside.specs.OrderedSet as set;
+ghost use Rattle.std.specs.Option.{option_copied, unwrap_or};
+ghost use Rattle.bl_graph.specs.Graph.{at_key, keys_in, by_text, without};
+ghost use Rattle.bl_graph.specs.Replay.{with_values, with_values_in};
 
-use crate::KeyedValues;
+use crate::{KeyedValues, ValueSet};
 use bl_outside::{NoMemory, Text};
 use bl_value::Value;
 use std::alloc::Global;
@@ -41,12 +42,12 @@ impl OwnedValues {
         }
     }
 
-    pub fn contains(&self, id: &Text, key: &Text, value: &Value) -> bool
-        ensures { result ≡ set.contains (at_key (keys_in self.now id.now) key.now) value.now }
+    pub fn get(&self, id: &Text, key: &Text) -> Option<&ValueSet>
+        ensures { unwrap_or (option_copied result) set.empty ≡ at_key (keys_in self.now id.now) key.now }
     {
         match self.owners.get(id) {
-            Some(keys) => keys.contains(key, value),
-            None => false,
+            Some(keys) => keys.get(key),
+            None => None,
         }
     }
 
@@ -62,5 +63,31 @@ impl OwnedValues {
                 Ok(())
             }
         }
+    }
+
+    /// Removes a value, its key after its last value, and the owner after its last key. It takes no
+    /// memory.
+    pub fn remove(&mut self, id: &Text, key: &Text, value: &Value)
+        ensures { self.new ≡ with_values_in self.old id.now key.now (set.remove (at_key (keys_in self.old id.now) key.now) value.now) }
+    {
+        if !remove_of(&mut self.owners, id, key, value) {
+            return;
+        }
+        self.owners.remove(id);
+    }
+}
+
+// Removes a value of an owner. True where none is left of it.
+fn remove_of(owners: &mut BTreeMap<Text, KeyedValues>, id: &Text, key: &Text, value: &Value) -> bool
+    ensures empty { result ≡ (map.len (with_values (keys_in (by_text owners.old.entries) id.now) key.now (set.remove (at_key (keys_in (by_text owners.old.entries) id.now) key.now) value.now)) == 0) }
+    ensures left { result ≡ false → by_text owners.new.entries ≡ map.insert (by_text owners.old.entries) id.now (with_values (keys_in (by_text owners.old.entries) id.now) key.now (set.remove (at_key (keys_in (by_text owners.old.entries) id.now) key.now) value.now)) }
+    ensures others { without (by_text owners.new.entries) id.now ≡ without (by_text owners.old.entries) id.now }
+{
+    match owners.get_mut(id) {
+        Some(keys) => {
+            keys.remove(key, value);
+            keys.is_empty()
+        }
+        None => true,
     }
 }

@@ -1,89 +1,103 @@
 // Rows and what they do to a graph, one after the other.
-ghost use Rattle.std.specs.Prelude.{◌≡◌, false, IfOk, IsTrue};
-ghost use Rattle.bl_graph.specs.Plain.{AreSets, IsPlainChange, IsPlainRow};
-
 use crate::{Graph, Verdict};
 use bl_outside::{List, NoMemory, Text};
-use bl_value::{Change, Property, Row, Side, Value};
+use bl_value::{Change, LogCode, Property, Row, Value};
 use std::alloc::Global;
 
 fn text(alloc: Global, s: &str) -> Result<Text, NoMemory> {
     Text::copy_of(alloc, s.as_bytes())
 }
 
-fn one_text(alloc: Global, s: &str) -> Result<List<Text>, NoMemory> {
+// A list of one text, or of none where it is empty.
+fn texts(alloc: Global, s: &str) -> Result<List<Text>, NoMemory> {
     let mut list = List::new(alloc);
-    list.push(text(alloc, s)?)?;
+    if !s.is_empty() {
+        list.push(text(alloc, s)?)?;
+    }
     Ok(list)
 }
 
-fn name(alloc: Global, value: &str) -> Result<List<Property>, NoMemory>
-    ensures { IfOk result AreSets }
-{
-    let mut values = List::new(alloc);
-    values.push(Value::Str(text(alloc, value)?))?;
+// A text, or the number 7.
+fn value(alloc: Global, s: &str) -> Result<Value, NoMemory> {
+    if s == "number" {
+        return Ok(Value::Long(7));
+    }
+    Ok(Value::Str(text(alloc, s)?))
+}
+
+// The property `name` with one value, or none where that is empty.
+fn name(alloc: Global, single: bool, s: &str) -> Result<List<Property>, NoMemory> {
     let mut properties = List::new(alloc);
+    if s.is_empty() {
+        return Ok(properties);
+    }
+    let mut values = List::new(alloc);
+    values.push(value(alloc, s)?)?;
     properties.push(Property {
         key: text(alloc, "name")?,
         column: 3,
-        single: false,
+        single,
         values,
     })?;
     Ok(properties)
 }
 
-fn vertex(alloc: Global, id: &str, label: &str, value: &str) -> Result<Row, NoMemory>
-    ensures { IfOk result IsPlainRow }
-{
+fn vertex(alloc: Global, id: &str, label: &str, value: &str) -> Result<Row, NoMemory> {
     Ok(Row::Vertex {
         id: text(alloc, id)?,
-        labels: one_text(alloc, label)?,
-        properties: name(alloc, value)?,
+        labels: texts(alloc, label)?,
+        properties: name(alloc, false, value)?,
     })
 }
 
-fn plain(change: &Change) -> bool
-    ensures { IsTrue result → IsPlainChange change.now }
-{
-    match change {
-        Change::AddLabel { .. } => true,
-        Change::AddValue {
-            side: Side::Vertex, ..
-        } => true,
-        _ => false,
-    }
+fn single(alloc: Global, value: &str) -> Result<Row, NoMemory> {
+    Ok(Row::Vertex {
+        id: text(alloc, "v1")?,
+        labels: List::new(alloc),
+        properties: name(alloc, true, value)?,
+    })
 }
 
-fn words(out: &mut Text, sign: &str, texts: &[&Text]) -> Result<(), NoMemory> {
-    out.extend(sign.as_bytes())?;
-    for text in texts {
-        out.extend(b" ")?;
-        out.extend(text.as_slice())?;
-    }
-    out.extend(b";")
+fn edge(alloc: Global, label: &str, to: &str, value: &str) -> Result<Row, NoMemory> {
+    Ok(Row::Edge {
+        id: text(alloc, "e1")?,
+        label: text(alloc, label)?,
+        from: text(alloc, "v1")?,
+        to: text(alloc, to)?,
+        properties: name(alloc, true, value)?,
+    })
 }
 
-fn value_text(value: &Value, alloc: Global) -> Result<Text, NoMemory> {
+fn put(out: &mut Text, word: &Text) -> Result<(), NoMemory> {
+    out.push(32)?;
+    out.extend(word.as_slice())
+}
+
+fn put_value(out: &mut Text, value: &Value) -> Result<(), NoMemory> {
     match value {
-        Value::Str(text) => text.copy(alloc),
-        _ => Ok(Text::new(alloc)),
+        Value::Str(text) => put(out, text),
+        _ => out.extend(b" 7"),
     }
 }
 
-fn describe(alloc: Global, out: &mut Text, change: &Change) -> Result<(), NoMemory> {
+fn describe(out: &mut Text, change: &Change) -> Result<(), NoMemory> {
     match change {
-        Change::AddLabel { id, label } => words(out, "label", &[id, label]),
-        Change::AddEdge {
-            id,
-            label,
-            from,
-            to,
-        } => words(out, "edge", &[id, label, from, to]),
-        Change::AddValue { id, key, value, .. } => {
-            words(out, "add", &[id, key, &value_text(value, alloc)?])
+        Change::AddLabel { label, .. } => {
+            out.extend(b"label")?;
+            put(out, label)
         }
-        Change::RemoveValue { id, key, value, .. } => {
-            words(out, "remove", &[id, key, &value_text(value, alloc)?])
+        Change::AddEdge { label, to, .. } => {
+            out.extend(b"edge")?;
+            put(out, label)?;
+            put(out, to)
+        }
+        Change::AddValue { value, .. } => {
+            out.extend(b"add")?;
+            put_value(out, value)
+        }
+        Change::RemoveValue { value, .. } => {
+            out.extend(b"remove")?;
+            put_value(out, value)
         }
     }
 }
@@ -92,37 +106,112 @@ fn describe(alloc: Global, out: &mut Text, change: &Change) -> Result<(), NoMemo
 fn told(alloc: Global, graph: &mut Graph, changes: &List<Change>) -> Result<Text, NoMemory> {
     let mut out = Text::new(alloc);
     for change in changes.as_slice() {
-        describe(alloc, &mut out, change)?;
-        if plain(change) && graph.fits(change) {
+        describe(&mut out, change)?;
+        if graph.fits(change) {
             graph.apply(change)?;
-        } else {
-            out.extend(b"misfit;")?;
+            out.push(59)?;
         }
     }
     Ok(out)
 }
 
-fn answer(alloc: Global, graph: &mut Graph, row: &Row) -> Result<Text, NoMemory>
-    requires { IsPlainRow row.now }
-{
-    match graph.admit(false, row)? {
-        Verdict::Changes(changes) => told(alloc, graph, &changes),
-        Verdict::Duplicate => text(alloc, "duplicate"),
-        Verdict::Refused(_, _) => text(alloc, "refused"),
+fn refusal(code: LogCode) -> &'static str {
+    match code {
+        LogCode::FromMissing => "no from",
+        LogCode::ToMissing => "no to",
+        LogCode::EdgeConflict => "edge conflict",
+        LogCode::SingleConflict => "single conflict",
+        _ => "bad",
     }
 }
 
-fn first_load(alloc: Global) -> Result<bool, NoMemory> {
-    let mut graph = Graph::empty(alloc);
-    let first = answer(alloc, &mut graph, &vertex(alloc, "v1", "person", "Ann")?)?;
-    let again = answer(alloc, &mut graph, &vertex(alloc, "v1", "person", "Ann")?)?;
-    let other = answer(alloc, &mut graph, &vertex(alloc, "v1", "child", "Bob")?)?;
-    Ok(first == text(alloc, "label v1 person;add v1 name Ann;")?
-        && again == text(alloc, "duplicate")?
-        && other == text(alloc, "label v1 child;add v1 name Bob;")?)
+fn answer(alloc: Global, graph: &mut Graph, update: bool, row: &Row) -> Result<Text, NoMemory> {
+    match graph.admit(update, row)? {
+        Verdict::Changes(changes) => told(alloc, graph, &changes),
+        Verdict::Duplicate => text(alloc, "duplicate"),
+        Verdict::Refused(code, _) => text(alloc, refusal(code)),
+    }
+}
+
+fn answers(
+    alloc: Global,
+    graph: &mut Graph,
+    update: bool,
+    row: &Row,
+    expected: &str,
+) -> Result<bool, NoMemory> {
+    let answer = answer(alloc, graph, update, row)?;
+    Ok(answer.as_slice() == expected.as_bytes())
+}
+
+fn loads_vertices(alloc: Global, graph: &mut Graph) -> Result<bool, NoMemory> {
+    let mut same = true;
+    for (id, label, value, expected) in [
+        ("v1", "person", "Ann", "label person;add Ann;"),
+        ("v1", "person", "Ann", "duplicate"),
+        ("v1", "child", "Bob", "label child;add Bob;"),
+        ("v1", "", "", "duplicate"),
+        ("v1", "", "7", "add 7;"),
+        ("v1", "", "number", "add 7;"),
+        ("v2", "", "", "label vertex;"),
+    ] {
+        let row = vertex(alloc, id, label, value)?;
+        same &= answers(alloc, graph, false, &row, expected)?;
+    }
+    Ok(same)
+}
+
+fn loads_edges(alloc: Global, graph: &mut Graph) -> Result<bool, NoMemory> {
+    let mut same = true;
+    for (label, to, value, expected) in [
+        ("knows", "v9", "", "no to"),
+        ("knows", "v1", "", "edge knows v1;"),
+        ("knows", "v1", "", "duplicate"),
+        ("likes", "v1", "", "edge conflict"),
+        ("knows", "v2", "", "edge conflict"),
+        ("knows", "v1", "x", "add x;"),
+        ("knows", "v1", "y", "single conflict"),
+    ] {
+        let row = edge(alloc, label, to, value)?;
+        same &= answers(alloc, graph, false, &row, expected)?;
+    }
+    Ok(same)
+}
+
+fn updates(alloc: Global, graph: &mut Graph) -> Result<bool, NoMemory> {
+    let mut same = true;
+    for (update, value, expected) in [
+        (false, "Ann", "label vertex;add Ann;"),
+        (false, "Ann", "duplicate"),
+        (false, "Bob", "single conflict"),
+        (true, "Bob", "remove Ann;add Bob;"),
+        (true, "Bob", "duplicate"),
+    ] {
+        let row = single(alloc, value)?;
+        same &= answers(alloc, graph, update, &row, expected)?;
+    }
+    Ok(same)
+}
+
+fn has_parts(graph: &Graph, id: &Text) -> bool {
+    match graph.edge(id) {
+        Some((label, from, to)) => label.len() == 5 && from == to && graph.has_vertex(from),
+        None => false,
+    }
 }
 
 #[test]
-fn a_row_adds_what_is_missing(rt: HostRuntime) {
-    assert!(rt; first_load(rt.alloc()) == Ok(true));
+fn rows_add_what_is_missing(rt: HostRuntime) {
+    let mut graph = Graph::empty(rt.alloc());
+    assert!(rt; loads_vertices(rt.alloc(), &mut graph) == Ok(true));
+    assert!(rt; loads_edges(rt.alloc(), &mut graph) == Ok(true));
+    if let Ok(id) = text(rt.alloc(), "e1") {
+        assert!(rt; has_parts(&graph, &id));
+    }
+}
+
+#[test]
+fn a_single_value_takes_the_place_of_another(rt: HostRuntime) {
+    let mut graph = Graph::empty(rt.alloc());
+    assert!(rt; updates(rt.alloc(), &mut graph) == Ok(true));
 }

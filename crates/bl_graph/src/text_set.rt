@@ -1,6 +1,6 @@
 // A set of texts.
 ghost use Rattle.std.specs.Prelude.{◌≡◌, IfOk, OnOk, OnErr};
-ghost use Rattle.std.specs.FinSet as set;
+ghost use Rattle.bl_outside.specs.OrderedSet as set;
 
 use bl_outside::{NoMemory, Text};
 use std::alloc::Global;
@@ -14,7 +14,7 @@ pub struct TextSet {
 }
 
 impl Model for TextSet {
-    ghost use Rattle.std.specs.FinSet as set;
+    ghost use Rattle.bl_outside.specs.OrderedSet as set;
     ghost use Rattle.bl_graph.specs.Codes.{texts_code};
     ghost use Rattle.bl_graph.specs.Graph.{Texts};
 

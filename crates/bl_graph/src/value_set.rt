@@ -1,11 +1,12 @@
 // A set of values.
-ghost use Rattle.std.specs.Prelude.{◌≡◌, IfOk, OnOk, OnErr};
-ghost use Rattle.std.specs.FinSet as set;
+ghost use Rattle.std.specs.Prelude.{◌≡◌, ◌==◌, IfOk, OnOk, OnErr};
+ghost use Rattle.bl_outside.specs.OrderedSet as set;
 
 use bl_outside::NoMemory;
 use bl_value::Value;
 use std::alloc::Global;
 use std::collections::BTreeSet;
+use std::collections::btree_set::Iter;
 use std::marker::Model;
 
 /// Values, each once.
@@ -15,7 +16,7 @@ pub struct ValueSet {
 }
 
 impl Model for ValueSet {
-    ghost use Rattle.std.specs.FinSet as set;
+    ghost use Rattle.bl_outside.specs.OrderedSet as set;
     ghost use Rattle.bl_graph.specs.Codes.{values_code};
     ghost use Rattle.bl_graph.specs.Graph.{Values};
 
@@ -56,5 +57,24 @@ impl ValueSet {
     {
         self.values.insert(value)?;
         Ok(())
+    }
+
+    pub fn remove(&mut self, value: &Value)
+        ensures { self.new ≡ set.remove self.old value.now }
+    {
+        self.values.remove(value);
+    }
+
+    pub fn is_empty(&self) -> bool
+        ensures { result ≡ (set.len self.now == 0) }
+    {
+        self.values.len() == 0
+    }
+
+    /// The values in order.
+    pub fn iter(&self) -> Iter<'_, Value>
+        ensures { result ≡ set.items self.now }
+    {
+        self.values.iter()
     }
 }

@@ -1,7 +1,7 @@
 // The vertices, each with its labels.
 ghost use Rattle.std.specs.Prelude.{◌≡◌, OnOk, OnErr, unwrap_or};
 ghost use Rattle.std.specs.FinMap as map;
-ghost use Rattle.std.specs.FinSet as set;
+ghost use Rattle.bl_outside.specs.OrderedSet as set;
 ghost use Rattle.bl_graph.specs.Graph.{texts_at};
 
 use crate::TextSet;

@@ -7,3 +7,4 @@ pub mod MemoryFolders
 pub mod MemoryDisks
 pub mod MemoryLaws
 pub mod Stops
+pub mod OrderedSet

@@ -1,5 +1,5 @@
 use Rattle.std.proofs.Common.{◌≡◌, ◌++◌, map, filter, not, take}
-use Rattle.std.specs.FinSet as set
+use Rattle.bl_outside.specs.OrderedSet as set
 use Rattle.bl_value.specs.declared.change.Change.TheVariants.{AddValue}
 use Rattle.bl_graph.specs.Graph.{values_at}
 use Rattle.bl_graph.proofs.graph.Graph.push_added.Given as goal

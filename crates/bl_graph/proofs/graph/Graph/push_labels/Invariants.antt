@@ -1,5 +1,5 @@
 use Rattle.std.proofs.Common.{◌≡◌, ◌++◌, map, filter, not, take}
-use Rattle.std.specs.FinSet as set
+use Rattle.bl_outside.specs.OrderedSet as set
 use Rattle.bl_value.specs.declared.change.Change.TheVariants.{AddLabel}
 use Rattle.bl_graph.specs.Graph.{labels_of}
 use Rattle.bl_graph.proofs.graph.Graph.push_labels.Given as goal

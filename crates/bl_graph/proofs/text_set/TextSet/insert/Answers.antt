@@ -1,5 +1,5 @@
 use Rattle.std.proofs.Common.{ap, ◌∙◌}
-use Rattle.std.specs.FinSet as set
+use Rattle.bl_outside.specs.OrderedSet as set
 use Rattle.bl_outside.proofs.Finite.{given_text}
 use Rattle.bl_graph.proofs.text_set.TextSet.insert.Goals as goal
 

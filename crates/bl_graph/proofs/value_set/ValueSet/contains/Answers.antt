@@ -1,5 +1,5 @@
 use Rattle.std.proofs.Common.{ap, ◌∙◌}
-use Rattle.std.specs.FinSet as set
+use Rattle.bl_outside.specs.OrderedSet as set
 use Rattle.bl_graph.proofs.ValueOrder.{has_value}
 use Rattle.bl_graph.proofs.value_set.ValueSet.contains.Goals as goal
 

@@ -1,6 +1,6 @@
 use Rattle.std.proofs.Common.{sym, ◌∙◌}
-use Rattle.std.specs.FinSet as set
-use Rattle.bl_outside.proofs.Finite.{read_some, read_none}
+use Rattle.bl_outside.specs.OrderedSet as set
+use Rattle.bl_outside.proofs.Finite.{contains-empty, read_some, read_none}
 use Rattle.bl_graph.proofs.vertices.Vertices.has_label.Goals as goal
 
 pub returns-in-Some : goal.returns-in-Some
@@ -10,5 +10,5 @@ returns-in-Some c =
 
 pub returns-in-None : goal.returns-in-None
 returns-in-None c =
-    sym (set.contains-empty _ c.args.label.now)
+    sym (contains-empty _ c.args.label.now)
     ∙ read_none c.self.inside.labels.entries c.args.self.now c.self.view_is c.args.id.now set.empty (λ s. set.contains s c.args.label.now) c.in-None.ensures.value
