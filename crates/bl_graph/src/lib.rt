@@ -8,25 +8,24 @@
 //! `specs/Admission` (what a row does). This crate stands on `bl_value`.
 #![tactic(auto)]
 
-mod verdict;
-mod text_set;
-mod value_set;
-mod keyed_values;
-mod owned_values;
-mod vertices;
+mod admission;
 mod edges;
 mod graph;
-mod admission;
+mod keyed_values;
+mod owned_values;
+mod text_set;
+mod value_set;
+mod verdict;
+mod vertices;
 
 use edges::Edges;
+pub use graph::Graph;
 use keyed_values::KeyedValues;
 use owned_values::OwnedValues;
 use text_set::TextSet;
 use value_set::ValueSet;
-use vertices::Vertices;
-
-pub use graph::Graph;
 pub use verdict::Verdict;
+use vertices::Vertices;
 
 #[cfg(test)]
 mod tests;

@@ -48,7 +48,8 @@ fn plain(change: &Change) -> bool
     match change {
         Change::AddLabel { .. } => true,
         Change::AddValue {
-            side: Side::Vertex, ..
+            side: Side::Vertex,
+            ..
         } => true,
         _ => false,
     }
@@ -117,9 +118,11 @@ fn first_load(alloc: Global) -> Result<bool, NoMemory> {
     let first = answer(alloc, &mut graph, &vertex(alloc, "v1", "person", "Ann")?)?;
     let again = answer(alloc, &mut graph, &vertex(alloc, "v1", "person", "Ann")?)?;
     let other = answer(alloc, &mut graph, &vertex(alloc, "v1", "child", "Bob")?)?;
-    Ok(first == text(alloc, "label v1 person;add v1 name Ann;")?
-        && again == text(alloc, "duplicate")?
-        && other == text(alloc, "label v1 child;add v1 name Bob;")?)
+    Ok(
+        first == text(alloc, "label v1 person;add v1 name Ann;")?
+            && again == text(alloc, "duplicate")?
+            && other == text(alloc, "label v1 child;add v1 name Bob;")?,
+    )
 }
 
 #[test]

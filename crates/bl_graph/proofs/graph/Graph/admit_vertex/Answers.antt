@@ -8,5 +8,5 @@ use Rattle.bl_graph.proofs.graph.Graph.admit_vertex.Goals as goal
 pub returns : goal.returns
 returns c = record {
   verdict = c.verdict_of.ensures ∙ ap changed c.in_ok-changes.ensures.changes
-    ∙ ap (λ o. unless_conflict o (label_changes c.args.self.now c.args.id.now c.args.labels.now ++ flat_map (property_changes c.args.self.now Vertex c.args.id.now) c.args.properties.now)) (sym (no_conflict c.args.self.now c.args.update_single Vertex c.args.id.now c.args.properties.now c.requires.sets));
+      ∙ ap (λ o. unless_conflict o (label_changes c.args.self.now c.args.id.now c.args.labels.now ++ flat_map (property_changes c.args.self.now Vertex c.args.id.now) c.args.properties.now)) (sym (no_conflict c.args.self.now c.args.update_single Vertex c.args.id.now c.args.properties.now c.requires.sets));
 }
