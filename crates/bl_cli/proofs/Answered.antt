@@ -1,16 +1,15 @@
 -- Each answer for its cause, where no count rose.
-use Rattle.std.specs.Prelude.{◌≡◌, ◌⊎◌, ℕ, List, None, Some, refl}
+use Rattle.std.specs.Prelude.{◌≡◌, ◌⊎◌, None, Some, refl}
 use Rattle.std.specs.declared.option.Option.{Option}
-use Rattle.std.proofs.Common.{sym, ap, subst, ◌∙◌, inl, inr, ⊎_elim}
+use Rattle.std.proofs.Common.{sym, ap, ◌∙◌, inl, inr}
 use Rattle.std.proofs.lemmas.Option.{same_Some}
-use Rattle.bl_outside.specs.Counts.{Rose}
 use Rattle.bl_outside.specs.Folders.{Files}
 use Rattle.bl_cli.specs.declared.loading.Loaded.{Loaded}
 use Rattle.bl_cli.specs.declared.words.Asked.{Asked}
 use Rattle.bl_cli.specs.declared.status.Status.{Status}
 use Rattle.bl_cli.specs.declared.status.Status.TheVariants.{Ok, JobNotCompleted, Usage, WriteFault, NoMemory, NotBuilt}
 use Rattle.bl_cli.specs.Loads.{file_load}
-use Rattle.bl_cli.specs.Runs.{IsAnswer, IsFileAnswer, IsLoad, IsNotBuilt, OfFiles}
+use Rattle.bl_cli.specs.Runs.{IsAnswer, IsFileAnswer, IsLoad, IsNotBuilt}
 
 -- the causes of the answers that a run may give
 pub record HasCauses (files : Option Files) (words : Option Asked) (status : Status) : Type 0 where

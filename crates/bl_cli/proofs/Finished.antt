@@ -12,7 +12,7 @@ use Rattle.bl_cli.specs.declared.status.Status.{Status}
 use Rattle.bl_cli.specs.declared.status.Status.TheVariants.{Ok, WriteFault, NotBuilt}
 use Rattle.bl_cli.specs.Loads.{file_load}
 use Rattle.bl_cli.specs.Outputs.{load_output}
-use Rattle.bl_cli.specs.Runs.{Adds, AddsFront, LeavesFront, LoadPrints, OfFiles, Prints}
+use Rattle.bl_cli.specs.Runs.{Adds, LeavesFront, LoadPrints, OfFiles, Prints}
 
 -- how a load ends, by what was found at its source
 abbrev pub Ends : Option Loaded → Bool → ℕ → ℕ → Option (List ℕ) → Option (List ℕ) → Status → Type 0
@@ -28,17 +28,17 @@ pub ends_well : (files : Option Files) (command : Asked) (salt moment : ℕ) (ol
     Ends found command.changes salt moment old new status → status ≡ Ok → LoadPrints Adds files command salt moment old new
 ends_well files command salt moment old new None status is replays ends ok = absurd (cc (ends.0, ok))
 ends_well files command salt moment old new (Some loaded) status is replays ends ok = record {
-    loaded = loaded;
-    load = record { loads = found_at files command.path loaded is; replays = replays };
-    prints = (subst (Prints Ok (load_output salt moment command.changes loaded) old new) ok ends).1;
-  }
+  loaded = loaded;
+  load = record { loads = found_at files command.path loaded is; replays = replays };
+  prints = (subst (Prints Ok (load_output salt moment command.changes loaded) old new) ok ends).1;
+}
 
 pub ends_in_front : (files : Option Files) (command : Asked) (salt moment : ℕ) (old new : Option (List ℕ)) (found : Option Loaded) (status : Status) →
     OfFiles files (λ told. found ≡ file_load told command.path) → IfSome found (λ load. after empty load.changes ≡ load.graph) →
     Ends found command.changes salt moment old new status → status ≡ WriteFault → LeavesFront files command salt moment old new
 ends_in_front files command salt moment old new None status is replays ends fault = absurd (cc (ends.0, fault))
 ends_in_front files command salt moment old new (Some loaded) status is replays ends fault = inl (record {
-    loaded = loaded;
-    load = record { loads = found_at files command.path loaded is; replays = replays };
-    prints = subst (Prints Ok (load_output salt moment command.changes loaded) old new) fault ends;
-  })
+  loaded = loaded;
+  load = record { loads = found_at files command.path loaded is; replays = replays };
+  prints = subst (Prints Ok (load_output salt moment command.changes loaded) old new) fault ends;
+})

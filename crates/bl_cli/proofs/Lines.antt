@@ -1,9 +1,8 @@
 -- Events one after another.
 use Rattle.std.specs.Prelude.{◌≡◌, ℕ, ◌+◌, nat_eq, Bool, true, false, List, [], ◌∷◌, ◌++◌, length, refl}
 use Rattle.std.specs.List.{flat_map}
-use Rattle.std.proofs.Common.{sym, ap, ◌∙◌, arith, append_assoc, eq-eqb, eqb-true}
+use Rattle.std.proofs.Common.{ap, ◌∙◌, arith, append_assoc, eq-eqb, eqb-true}
 use Rattle.bl_value.specs.declared.change.Change.{Change}
-use Rattle.bl_change.specs.declared.event.Event.{Event}
 use Rattle.bl_cli.specs.Outputs.{event_line, events_from, is_end}
 
 unequal_by : (a b : ℕ) (test : Bool) → nat_eq a b ≡ test → ¬ (a ≡ b) → test ≡ false

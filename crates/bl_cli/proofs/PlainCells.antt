@@ -3,7 +3,7 @@ use Rattle.std.specs.Prelude.{◌≡◌, ◌==◌, ℕ, Bool, true, false, ◌||
 use Rattle.std.specs.List.{list_any}
 use Rattle.std.proofs.Common.{sym, ap, ◌∙◌, append_assoc}
 use Rattle.std.proofs.lemmas.List.{append-nil}
-use Rattle.bl_value.specs.Cells.{Piece, escaped, plain, pieces_from, items, items_from, without_spaces}
+use Rattle.bl_value.specs.Cells.{plain, pieces_from, items_from, without_spaces}
 use Rattle.bl_value.specs.declared.column.ColumnUse.{ColumnUse}
 use Rattle.bl_value.specs.declared.column.ColumnUse.TheVariants.{Id, Label, From, To, Property}
 use Rattle.bl_cli.specs.Rows.{is_array_byte, label_cell, labels_in, labels_of, once_behind}

@@ -108,7 +108,7 @@ plain_row_is uses fields few plain =
     ap (λ b. cond (not b) (unless_bad (row uses fields)) None) plain
     ∙ sound_row uses fields
     ∙ ap (λ b. cond (length fields == length uses) (cond (list_all is_utf8 fields) (cond (nat_le (sum_by length fields) 1048576) (cond (not (length (id_of uses fields) == 0)) (cond (is_short (id_of uses fields))
-      (cond (list_all is_short (labels_of uses fields)) (cond b (Some (vertex uses fields)) None) None) None) None) None) None) None) (enough_room uses fields few plain)
+    (cond (list_all is_short (labels_of uses fields)) (cond b (Some (vertex uses fields)) None) None) None) None) None) None) None) (enough_room uses fields few plain)
     ∙ grouped (length fields == length uses) (list_all is_utf8 fields) (nat_le (sum_by length fields) 1048576) (not (length (id_of uses fields) == 0)) (is_short (id_of uses fields)) (list_all is_short (labels_of uses fields)) (is_short (without_spaces (label_cell uses fields))) (Some (vertex uses fields)) (ap (list_all is_short) (labels_are uses fields plain) ∙ short_by (without_spaces (label_cell uses fields)) _ refl)
 
 -- a label cell that isn't plain

@@ -1,6 +1,6 @@
 -- The header of a plain vertex file: `~id`, then `~label` or nothing, then text properties, each as
 -- `name` or `name:String` (Neptune User Guide, "Gremlin load data format").
-use Rattle.std.specs.Prelude.{ℕ, ◌==◌, ◌+◌, ◌-◌, nat_le, nat_eq, Bool, true, false, not, ◌&&◌, ◌||◌, if◌then◌else◌, codes, List, [], ◌∷◌, ◌++◌, length, map, drop, slice_index, None, Some}
+use Rattle.std.specs.Prelude.{ℕ, ◌==◌, ◌-◌, nat_le, nat_eq, Bool, false, not, ◌&&◌, ◌||◌, if◌then◌else◌, codes, List, [], ◌∷◌, ◌++◌, length, map, drop, slice_index, None, Some}
 use Rattle.std.specs.declared.option.Option.{Option}
 use Rattle.std.specs.Option.{option_map, option_and_then}
 use Rattle.std.specs.List.{list_any, before_first}

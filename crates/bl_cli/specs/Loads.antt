@@ -1,5 +1,5 @@
 -- What a load of one plain vertex file comes to: one fold over the rows of the file.
-use Rattle.std.specs.Prelude.{ℕ, ◌+◌, nat_le, nat_lt, nat_eq, Bool, true, false, not, ◌&&◌, ◌||◌, if◌then◌else◌, codes, List, [], ◌∷◌, ◌++◌, length, None, Some}
+use Rattle.std.specs.Prelude.{ℕ, ◌+◌, nat_le, nat_eq, Bool, false, not, ◌&&◌, ◌||◌, if◌then◌else◌, codes, List, [], ◌∷◌, ◌++◌, length, None, Some}
 use Rattle.std.specs.declared.option.Option.{Option}
 use Rattle.std.specs.Option.{option_map, option_and_then}
 use Rattle.std.specs.List.{starts_with, ends_with}
@@ -8,7 +8,7 @@ use Rattle.bl_outside.specs.Folders.{Files}
 use Rattle.bl_value.specs.declared.change.Change.{Change}
 use Rattle.bl_value.specs.declared.column.ColumnUse.{ColumnUse}
 use Rattle.bl_value.specs.declared.row.Row.{Row}
-use Rattle.bl_graph.specs.Graph.{Graph, empty}
+use Rattle.bl_graph.specs.Graph.{empty}
 use Rattle.bl_graph.specs.Replay.{after}
 use Rattle.bl_graph.specs.Admission.{admit}
 use Rattle.bl_graph.specs.declared.verdict.Verdict.{Verdict}
@@ -27,8 +27,6 @@ abbrev pub duplicates_in : Verdict → ℕ
 duplicates_in (Changes changes) = 0
 duplicates_in Duplicate = 1
 duplicates_in (Refused code column) = 0
-
-
 
 -- before the first row
 abbrev pub nothing : Loaded

@@ -1,6 +1,6 @@
 -- What a record says under the columns of a plain vertex file: its faults, and its row where it has none
 -- (Neptune User Guide, "Gremlin load data format").
-use Rattle.std.specs.Prelude.{ℕ, ◌==◌, ◌+◌, nat_le, nat_lt, nat_eq, Bool, true, false, not, ◌&&◌, ◌||◌, if◌then◌else◌, List, [], ◌∷◌, ◌++◌, length, map, filter, sum_by, None, Some}
+use Rattle.std.specs.Prelude.{ℕ, ◌==◌, ◌+◌, nat_le, nat_lt, nat_eq, Bool, not, ◌&&◌, ◌||◌, if◌then◌else◌, List, [], ◌∷◌, ◌++◌, length, map, filter, sum_by, None, Some}
 use Rattle.std.specs.declared.option.Option.{Option}
 use Rattle.std.specs.List.{list_all, list_any}
 use Rattle.std.specs.Str.{is_utf8}
@@ -10,7 +10,7 @@ use Rattle.bl_value.specs.declared.value.Value.{Value}
 use Rattle.bl_value.specs.declared.value.Value.TheVariants.{Str}
 use Rattle.bl_value.specs.declared.column.Column.{Column}
 use Rattle.bl_value.specs.declared.column.ColumnUse.{ColumnUse}
-use Rattle.bl_value.specs.declared.column.ColumnUse.TheVariants.{Id, Label, From, To, Property}
+use Rattle.bl_value.specs.declared.column.ColumnUse.TheVariants.{Id, Label, Property}
 use Rattle.bl_value.specs.declared.log_code.LogCode.{LogCode}
 use Rattle.bl_value.specs.declared.log_code.LogCode.TheVariants.{ColumnCount, NotUtf8, RecordTooLarge, MissingId, IdTooLong, TooManyValues}
 use Rattle.bl_value.specs.declared.row.Property.{Property as RowProperty}

@@ -1,5 +1,5 @@
 -- The source of a load: the text `s3://`, a bucket, then nothing, or a slash and a key.
-use Rattle.std.specs.Prelude.{ℕ, ◌==◌, ◌+◌, ◌-◌, nat_le, nat_eq, Bool, true, false, not, ◌&&◌, ◌||◌, if◌then◌else◌, codes, List, [], ◌∷◌, ◌++◌, length, take, drop, slice_index, None, Some}
+use Rattle.std.specs.Prelude.{ℕ, ◌==◌, ◌-◌, nat_le, nat_eq, Bool, not, ◌&&◌, ◌||◌, if◌then◌else◌, codes, List, [], ◌∷◌, ◌++◌, length, take, drop, slice_index, None, Some}
 use Rattle.std.specs.declared.option.Option.{Option}
 use Rattle.std.specs.List.{list_all, list_any, starts_with, ends_with, before_first, after_first}
 use Rattle.std.specs.Str.{is_utf8}

@@ -121,7 +121,10 @@ fn add_columns(uses: &mut List<ColumnUse>, names: Vec<Text>) -> Result<(), NoMem
 
 // The uses of the columns, where the header is plain: `~id`, then `~label` or nothing, then text
 // properties.
-pub fn plain_columns(alloc: Global, fields: &List<Text>) -> Result<Option<List<ColumnUse>>, NoMemory>
+pub fn plain_columns(
+    alloc: Global,
+    fields: &List<Text>,
+) -> Result<Option<List<ColumnUse>>, NoMemory>
     ensures { IfOk result (λ uses. uses ≡ plain_columns fields.now) }
 {
     let Some((first, rest)) = fields.as_slice().split_first() else {

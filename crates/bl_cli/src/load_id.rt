@@ -24,8 +24,6 @@ pub fn load_id_text(alloc: Global, salt: u128, number: u32) -> Result<Text, NoMe
     ensures { IfOk result (λ text. text ≡ load_id_text salt number) }
 {
     let mut buffer = Uuid::encode_buffer();
-    let text = load_id(salt, number)
-        .hyphenated()
-        .encode_lower(&mut buffer);
+    let text = load_id(salt, number).hyphenated().encode_lower(&mut buffer);
     Ok(Text::copy_of(alloc, text.as_bytes())?)
 }

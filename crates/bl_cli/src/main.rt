@@ -11,29 +11,27 @@
 #![tactic(auto)]
 
 mod bytes;
-mod source;
-mod words;
-mod load_id;
 mod file;
-mod records;
-mod header;
-mod rows;
-mod loading;
-mod outputs;
-mod status;
-mod top;
-
 #[cfg(test)]
 mod file_tests;
+mod header;
+mod load_id;
+mod loading;
+mod outputs;
+mod records;
+mod rows;
+mod source;
+mod status;
+mod top;
+mod words;
 
 use bl_outside::{Disks, FixedClock, Sink};
 use bl_system::{FileDisk, ReadSource, RealFolder, WriteSink};
+pub use status::Status;
 use std::alloc::{AllocError, Global};
 use std::env;
 use std::process::ExitCode;
 use std::thread::Threads;
-
-pub use status::Status;
 pub use top::run;
 
 // A file of the store.

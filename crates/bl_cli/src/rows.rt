@@ -6,7 +6,9 @@ ghost use Rattle.bl_cli.specs.Rows.{id_of, is_array_byte, is_id, is_short, is_wh
 
 use crate::bytes::is_text;
 use bl_outside::{List, NoMemory, Text};
-use bl_value::{CellRefusal, ColumnUse, Property, Row, Value, ValueType, read_cell, without_spaces};
+use bl_value::{
+    CellRefusal, ColumnUse, Property, Row, Value, ValueType, read_cell, without_spaces,
+};
 use std::alloc::Global;
 
 // The id cell, without the spaces at its ends.

@@ -17,7 +17,9 @@ use crate::loading::{Loaded, is_compressed, load_bytes};
 use crate::outputs::{failed_line, load_output};
 use crate::status::Status;
 use crate::words::{Asked, read_words};
-use bl_outside::{Clock, Disk, Disks, Failed, Folder, Listing, NoMemory, Outside, Sink, Source, Text};
+use bl_outside::{
+    Clock, Disk, Disks, Failed, Folder, Listing, NoMemory, Outside, Sink, Source, Text,
+};
 use std::alloc::Global;
 use std::thread::Threads;
 

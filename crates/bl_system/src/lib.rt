@@ -6,14 +6,14 @@
 //! opened fails at each of its calls. This crate stands on `bl_outside`.
 #![tactic(auto)]
 
-mod read_source;
-mod write_sink;
-mod system_clock;
 mod file_disk;
+mod read_source;
 mod real_folder;
+mod system_clock;
+mod write_sink;
 
-pub use read_source::ReadSource;
-pub use write_sink::WriteSink;
-pub use system_clock::SystemClock;
 pub use file_disk::FileDisk;
+pub use read_source::ReadSource;
 pub use real_folder::RealFolder;
+pub use system_clock::SystemClock;
+pub use write_sink::WriteSink;

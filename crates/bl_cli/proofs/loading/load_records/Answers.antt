@@ -1,4 +1,4 @@
-use Rattle.std.proofs.Common.{◌∙◌, true, false, arith, ap, sym, subst}
+use Rattle.std.proofs.Common.{true, false, arith, ap, subst}
 use Rattle.bl_cli.specs.TakenRows.{TakesRecord}
 use Rattle.bl_cli.proofs.LoadedRows.{duplicates_more, load_ends, load_more, replays_more, texts_more}
 use Rattle.bl_cli.proofs.loading.load_records.Goals as goal
@@ -6,8 +6,8 @@ use Rattle.bl_cli.proofs.loading.load_records.Goals as goal
 pub loop-fields-preserved : goal.loop-fields-preserved
 loop-fields-preserved c =
     let taken : TakesRecord c.args.uses.now c.fields-item.result c.loop-fields.loaded c.take_record.new.loaded true =
-      subst (λ fields. TakesRecord c.args.uses.now fields c.loop-fields.loaded c.take_record.new.loaded true) c.as_slice.ensures
-      (subst (TakesRecord c.args.uses.now c.as_slice.result.now c.loop-fields.loaded c.take_record.new.loaded) c.if-not-branch.false c.in_ok-take_record.ensures) in
+    subst (λ fields. TakesRecord c.args.uses.now fields c.loop-fields.loaded c.take_record.new.loaded true) c.as_slice.ensures
+    (subst (TakesRecord c.args.uses.now c.as_slice.result.now c.loop-fields.loaded c.take_record.new.loaded) c.if-not-branch.false c.in_ok-take_record.ensures) in
     record {
       load = load_more c.args.uses.now c.args.records.now c.loop-fields.fields-index c.fields-item.result taken.0 c.loop-fields.loaded c.take_record.new.loaded _ c.loop-fields-test.true c.fields-item.is taken.1 taken.3 c.loop-fields.invariant.load;
       records = omega (arith, ap (λ l. l.records) taken.3, c.loop-fields.invariant.records);

@@ -1,4 +1,4 @@
-use Rattle.std.proofs.Common.{◌≡◌, ◌∙◌, ◌∷◌, ◌++◌, ◌==◌, Bool, [], true, false, ap, sym, cond, length}
+use Rattle.std.proofs.Common.{◌≡◌, ◌∙◌, ◌∷◌, ◌++◌, ◌==◌, [], ap, sym, cond, length}
 use Rattle.bl_value.specs.Cells.{without_spaces}
 use Rattle.bl_cli.proofs.PlainCells.{labels_plain}
 use Rattle.bl_cli.proofs.rows.labels_in.Goals as goal

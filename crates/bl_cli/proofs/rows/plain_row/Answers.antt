@@ -1,4 +1,4 @@
-use Rattle.std.proofs.Common.{◌≡◌, ◌∙◌, true, false, ap, sym, Some}
+use Rattle.std.proofs.Common.{◌∙◌, true, false, ap, sym, Some}
 use Rattle.std.specs.List.{list_any}
 use Rattle.bl_value.specs.Cells.{without_spaces}
 use Rattle.bl_value.specs.declared.row.Row.TheVariants.{Vertex}

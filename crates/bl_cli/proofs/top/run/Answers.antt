@@ -1,4 +1,4 @@
-use Rattle.std.proofs.Common.{⊎_elim, map, refl}
+use Rattle.std.proofs.Common.{⊎_elim, map}
 use Rattle.std.specs.String.{string_bytes}
 use Rattle.bl_cli.specs.Words.{asked}
 use Rattle.bl_cli.proofs.Answered.{answered}

@@ -1,4 +1,4 @@
-use Rattle.std.proofs.Common.{◌≡◌, ℕ, List, [], ◌∷◌, length, map, None, refl, arith}
+use Rattle.std.proofs.Common.{◌≡◌, ℕ, List, [], ◌∷◌, length, map, None, refl}
 use Rattle.std.specs.String.{string_bytes}
 use Rattle.bl_cli.specs.Words.{asked}
 use Rattle.bl_cli.proofs.words.read_words.Goals as goal
