@@ -13,40 +13,44 @@
 //! This crate stands on nothing but std.
 #![tactic(auto)]
 
-mod refusals;
-mod text;
-mod text_order;
-mod list;
 mod digest;
-mod streams;
-mod listing;
-mod folder;
 mod disk;
 mod disks;
+mod durable_write;
 mod faults;
-mod memory_source;
-mod memory_sink;
 mod fixed_clock;
-mod memory_folder;
+mod folder;
+mod journal_fault;
+mod list;
+mod listing;
 mod memory_disk;
+mod memory_folder;
+mod memory_sink;
+mod memory_source;
+mod refusals;
 mod stops;
+mod streams;
+mod text;
+mod text_order;
 
-pub use refusals::{Failed, NoMemory, Outside};
-pub use text::Text;
-pub use list::List;
 pub use digest::Digest;
-pub use streams::{Clock, Sink, Source};
-pub use listing::{Listing, Piece};
-pub use folder::Folder;
 pub use disk::Disk;
 pub use disks::Disks;
+pub use durable_write::write_through;
 pub use faults::{Faults, counted};
-pub use memory_source::MemorySource;
-pub use memory_sink::MemorySink;
 pub use fixed_clock::FixedClock;
-pub use memory_folder::MemoryFolder;
+pub use folder::Folder;
+pub use journal_fault::JournalFault;
+pub use list::List;
+pub use listing::{Listing, Piece};
 pub use memory_disk::{DiskCall, MemoryDisk};
+pub use memory_folder::MemoryFolder;
+pub use memory_sink::MemorySink;
+pub use memory_source::MemorySource;
+pub use refusals::{Failed, NoMemory, Outside};
 pub use stops::Fill;
+pub use streams::{Clock, Sink, Source};
+pub use text::Text;
 
 #[cfg(test)]
 mod tests;

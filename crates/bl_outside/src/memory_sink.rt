@@ -62,4 +62,3 @@ impl Sink for MemorySink {
         answer
     }
 }
-

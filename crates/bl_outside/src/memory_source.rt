@@ -50,4 +50,3 @@ impl Source for MemorySource {
         Ok(most)
     }
 }
-

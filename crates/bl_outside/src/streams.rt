@@ -44,7 +44,6 @@ pub trait Sink {
         ensures step { put_to self.old self.new };
 }
 
-
 /// Milliseconds from 1970 UTC.
 pub trait Clock {
     /// The value that it gave last.

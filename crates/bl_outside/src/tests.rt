@@ -1,9 +1,7 @@
 ghost use Rattle.std.specs.Prelude.{IfOk};
 ghost use Rattle.std.specs.Str.{IsUtf8};
 
-use crate::{
-    Disk, Faults, Fill, Folder, List, Listing, MemoryDisk, MemoryFolder, NoMemory, Text,
-};
+use crate::{Disk, Faults, Fill, Folder, List, Listing, MemoryDisk, MemoryFolder, NoMemory, Text};
 use std::alloc::Global;
 
 fn text(alloc: Global, s: &str) -> Result<Text, NoMemory>
