@@ -9,12 +9,16 @@ use Rattle.bl_outside.specs.Disks.{OfContent}
 use Rattle.bl_outside.specs.declared.journal_fault.JournalFault.TheVariants.{NotAJournal}
 use Rattle.bl_journal.specs.Frames.{number, prefixed, is_frame, body_of, frames_from, frames_at, length_behind}
 use Rattle.bl_journal.specs.Journals.{body_at, GateIs}
-use Rattle.bl_journal.proofs.Bytes.{closed, one_frame, no_frame, frame_is, number_take}
+use Rattle.bl_journal.proofs.Bytes.{closed, one_frame, no_frame, frame_is, frame_bound, number_take}
 use Rattle.bl_journal.proofs.Reaching.{at_next, rest_length}
 
 choice_some : (b : Bool) (x y : ℕ) → (if b then Some x else None) ≡ Some y → (b ≡ true) × (x ≡ y)
 choice_some true x y is = (refl, same_Some x y is)
 choice_some false x y is = absurd (none-some y is)
+
+not_true : (b : Bool) → (b ≡ true → ⊥) → b ≡ false
+not_true true not = absurd (not refl)
+not_true false not = refl
 
 choice_none : (b : Bool) (x : ℕ) → (if b then Some x else None) ≡ None → b ≡ false
 choice_none true x is = absurd (none-some x (sym is))
@@ -46,12 +50,10 @@ module _ (place : ℕ) (content front : List ℕ) (front_is : front ≡ take 5 (
     fault_by : is_frame opened.0 n ≡ false → frames_at place content ≡ ([], Some place)
     fault_by not = ap (λ l. frames_from place 0 l) opened.1 ∙ no_frame place opened.0 (ap (λ k. is_frame opened.0 k) opened.2 ∙ not)
 
-    fault_ahead : (n ≡ 0) ⊎ (length content - place ≤ 5 + n) → frames_at place content ≡ ([], Some place)
-    fault_ahead = ⊎_elim
-        (λ none. fault_by (and_left (nat_lt 0 n) (nat_lt (4 + n) (length opened.0)) (le-ltb 0 n (omega (arith, none)))))
-        (λ short. fault_by (and_right (nat_lt 0 n) (nat_lt (4 + n) (length opened.0)) (le-ltb (4 + n) (length opened.0) (omega (arith, room, short)))))
+    fault_ahead : ((0 < n) × (place + 5 + n < length content) → ⊥) → frames_at place content ≡ ([], Some place)
+    fault_ahead not = fault_by (not_true (is_frame opened.0 n) (λ whole. let bound = frame_bound opened.0 n whole in not (bound.0, omega (arith, room, bound.1))))
 
-    module _ (some : 0 < n) (long : 5 + n < length content - place) where
+    module _ (some : 0 < n) (long : place + 5 + n < length content) where
       whole : is_frame opened.0 n ≡ true
       whole = frame_is opened.0 n some (omega (arith, room, long))
 
@@ -79,14 +81,14 @@ module _ (place : ℕ) where
   gate_none (Some content) front read none = none_ahead place content front read none
 
   pub gate_fault : (seen : Option (List ℕ)) (size n : ℕ) (front : List ℕ) → OfContent seen length size → OfContent seen front_of front → length_behind front ≡ Some n
-      → (n ≡ 0) ⊎ (size - place ≤ 5 + n) → GateIs seen place (Err (NotAJournal place))
+      → ((0 < n) × (place + 5 + n < size) → ⊥) → GateIs seen place (Err (NotAJournal place))
   gate_fault None size n front sized read some short = tt
   gate_fault (Some content) size n front sized read some short =
-      fault_ahead place content front read n some (subst (λ s. (n ≡ 0) ⊎ (s - place ≤ 5 + n)) sized short)
+      fault_ahead place content front read n some (subst (λ s. (0 < n) × (place + 5 + n < s) → ⊥) sized short)
 
   pub gate_some : (seen : Option (List ℕ)) (size n : ℕ) (front : List ℕ) → OfContent seen length size → OfContent seen front_of front → length_behind front ≡ Some n
-      → 0 < n → 5 + n < size - place → GateIs seen place (Ok (Some n))
-  gate_some None size n front sized read is some long = tt
-  gate_some (Some content) size n front sized read is some long =
-      let long' : 5 + n < length content - place = subst (λ s. 5 + n < s - place) sized long in
-      (body_length place content front read n is some long', some_ahead place content front read n is some long')
+      → (0 < n) × (place + 5 + n < size) → GateIs seen place (Ok (Some n))
+  gate_some None size n front sized read is fits = tt
+  gate_some (Some content) size n front sized read is fits =
+      let long : place + 5 + n < length content = subst (λ s. place + 5 + n < s) sized fits.1 in
+      (body_length place content front read n is fits.0 long, some_ahead place content front read n is fits.0 long)

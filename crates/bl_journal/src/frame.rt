@@ -21,6 +21,13 @@ pub fn has_room(gate: u64, length: usize) -> bool
     length <= LONGEST_BODY && gate < JOURNAL_LIMIT && gate + 5 + length < JOURNAL_LIMIT
 }
 
+/// Behind the gate there is place for a body of this length, which isn't 0, and for a next gate.
+pub fn is_whole(size: u64, gate: u64, length: u32) -> bool
+    ensures { IsTrue result ↔ (0 < length) × (gate + 5 + length < size) }
+{
+    length > 0 && size.saturating_sub(gate) > 5 + length as u64
+}
+
 /// What stands behind the gate: the length, the body and the next gate, closed.
 pub fn bytes_behind_gate(alloc: Global, body: &[u8]) -> Result<Vec<u8>, NoMemory>
     ensures { length body.now < 2 ^ 32 → IfOk result (λ bytes. bytes.items ≡ behind_gate body.now) }

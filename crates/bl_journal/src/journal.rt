@@ -6,7 +6,7 @@ ghost use Rattle.bl_journal.specs.Frames.{Found, AsBefore, WithOrWithout};
 ghost use Rattle.bl_journal.specs.Journals.{IsSound, IsSettled, Since, IsMade, Begins, HasHead, HeadFault, GateIs, FrameIs};
 
 use crate::AppendRefusal;
-use crate::frame::{bytes_behind_gate, has_room, length_in};
+use crate::frame::{bytes_behind_gate, has_room, is_whole, length_in};
 use crate::head::{FIRST_GATE, HEAD, NEW_FILE, difference, is_empty_journal};
 use bl_outside::{Disk, JournalFault, Outside, Text, write_through};
 use std::alloc::Global;
@@ -90,7 +90,7 @@ fn length_at<D: Disk>(disk: &mut D, gate: u64) -> Result<Option<u32>, JournalFau
         None => return Ok(None),
         Some(length) => length,
     };
-    if length == 0 || size.saturating_sub(gate) <= 5 + length as u64 {
+    if !is_whole(size, gate, length) {
         return Err(JournalFault::NotAJournal(gate));
     }
     Ok(Some(length))
@@ -241,7 +241,8 @@ impl<D: Disk> Journal<D> {
         if !has_room(gate, body.len()) {
             return Err(AppendRefusal::Full);
         }
-        write_through(&mut self.disk, gate + 1, &bytes)?;
+        let bytes = bytes.as_slice();
+        write_through(&mut self.disk, gate + 1, bytes)?;
         write_through(&mut self.disk, gate, &[1])?;
         self.place = gate + 5 + body.len() as u64;
         Ok(gate)

@@ -18,3 +18,6 @@ mod refusal;
 
 pub use journal::Journal;
 pub use refusal::AppendRefusal;
+
+#[cfg(test)]
+mod tests;
