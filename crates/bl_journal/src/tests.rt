@@ -69,9 +69,11 @@ fn example(alloc: Global) -> Result<bool, NoMemory> {
     let Ok(bytes) = disk.read_at(0, 100) else {
         return Err(NoMemory);
     };
-    Ok(place == Some(15)
-        && bytes.as_slice()
-            == b"NEPTLOAD-JRNL-1\x01\0\0\0\x0d\x02\0\0\0\0\0\0\0\x05\0\0\0\x02\0".as_slice())
+    Ok(
+        place == Some(15)
+            && bytes.as_slice()
+                == b"NEPTLOAD-JRNL-1\x01\0\0\0\x0d\x02\0\0\0\0\0\0\0\x05\0\0\0\x02\0".as_slice(),
+    )
 }
 
 #[test]
@@ -93,8 +95,12 @@ fn a_foreign_file_is_refused_at_its_place(rt: HostRuntime) {
     assert!(rt; frames_in(alloc, b"hello, this is text!") == Err(JournalFault::NotAJournal(0)));
     assert!(rt; frames_in(alloc, b"hello") == Ok(0));
     assert!(rt; frames_in(alloc, b"NEPTLOAD-JRNL-2\0\0") == Err(JournalFault::NotAJournal(14)));
-    assert!(rt; frames_in(alloc, b"NEPTLOAD-JRNL-1\x01\0\0\0\0\0") == Err(JournalFault::NotAJournal(15)));
-    assert!(rt; frames_in(alloc, b"NEPTLOAD-JRNL-1\x01\0\0\0\x02ab") == Err(JournalFault::NotAJournal(15)));
+    assert!(rt;
+        frames_in(alloc, b"NEPTLOAD-JRNL-1\x01\0\0\0\0\0") == Err(JournalFault::NotAJournal(15))
+    );
+    assert!(rt;
+        frames_in(alloc, b"NEPTLOAD-JRNL-1\x01\0\0\0\x02ab") == Err(JournalFault::NotAJournal(15))
+    );
     assert!(rt; frames_in(alloc, ONE_FRAME) == Ok(1));
 }
 
@@ -107,9 +113,7 @@ fn after_stop(alloc: Global, from: u64, fill: Fill) -> Result<(bool, usize), NoM
     };
     let kept = match found.as_slice() {
         [old] => old.as_slice() == b"old".as_slice(),
-        [old, new] => {
-            old.as_slice() == b"old".as_slice() && new.as_slice() == b"new".as_slice()
-        }
+        [old, new] => { old.as_slice() == b"old".as_slice() && new.as_slice() == b"new".as_slice() }
         _ => false,
     };
     Ok((place.is_some(), if kept { found.len() } else { 0 }))

@@ -1,4 +1,4 @@
-use Rattle.std.proofs.Common.{List, ℕ, take, drop, refl, ap, sym, subst, ◌∙◌}
+use Rattle.std.proofs.Common.{take, drop, refl, ap, sym, subst, ◌∙◌}
 use Rattle.std.proofs.lemmas.Bool.{false≢true}
 use Rattle.bl_outside.specs.Disks.{OfContent}
 use Rattle.bl_journal.specs.Frames.{length_behind}

@@ -1,4 +1,3 @@
-use Rattle.std.proofs.Common.{◌<◌, length}
 use Rattle.bl_journal.specs.Journals.{IsAtGate}
 use Rattle.bl_journal.proofs.tests.append_at_end.Given as goal
 
