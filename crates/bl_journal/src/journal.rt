@@ -33,12 +33,15 @@ impl<D: Disk> Model for Journal<D> {
 // Syncs, and then reads how long the file is and how it begins.
 fn settled_front<D: Disk>(disk: &mut D) -> Result<(u64, Text), Outside>
     ensures size { IfOk result (λ found. OfContent (D.seen disk.old) length found.0) }
-    ensures front { IfOk result (λ found. OfContent (D.seen disk.old) (λ content. take 16 content) found.1) }
+    ensures front { IfOk result (λ found.
+        OfContent (D.seen disk.old) (λ content. take 16 content) found.1) }
     ensures settled { OnOk result (D.honest disk.old → IsSettled ⟦<D as Disk>⟧ disk.new) }
     ensures seen { D.seen disk.new ≡ D.seen disk.old }
     ensures honest { D.honest disk.new ↔ D.honest disk.old }
-    ensures crash { D.honest disk.old → (c : List ℕ) → D.may_leave disk.new c → D.may_leave disk.old c }
-    ensures any_moment { D.honest disk.old → Since ⟦<D as Disk>⟧ disk.old disk.new (D.may_leave disk.old) }
+    ensures crash { D.honest disk.old → (c : List ℕ) → D.may_leave disk.new c
+        → D.may_leave disk.old c }
+    ensures any_moment { D.honest disk.old
+        → Since ⟦<D as Disk>⟧ disk.old disk.new (D.may_leave disk.old) }
     ensures cause { HasDeviceCause (D.faults disk.old) (D.faults disk.new) result }
 {
     disk.sync()?;
@@ -49,13 +52,16 @@ fn settled_front<D: Disk>(disk: &mut D) -> Result<(u64, Text), Outside>
 
 // Settles the file, and checks its head, or writes it where the file isn't finished.
 fn open_file<D: Disk>(disk: &mut D) -> Result<(), JournalFault>
-    ensures begins { OnOk result ((IsSound ⟦<D as Disk>⟧ disk.old ⊎ IsMade (D.seen disk.old)) → Begins (D.seen disk.old) (D.seen disk.new)) }
+    ensures begins { OnOk result ((IsSound ⟦<D as Disk>⟧ disk.old ⊎ IsMade (D.seen disk.old))
+        → Begins (D.seen disk.old) (D.seen disk.new)) }
     ensures settled { OnOk result (D.honest disk.old → IsSettled ⟦<D as Disk>⟧ disk.new) }
     ensures head { OnOk result (HasHead (D.seen disk.old)) }
     ensures fault { IfErr result (HeadFault (D.seen disk.old)) }
-    ensures store { IsErrOf result JournalFault.StoreFault → Rose (D.faults disk.old) (D.faults disk.new) }
+    ensures store { IsErrOf result JournalFault.StoreFault
+        → Rose (D.faults disk.old) (D.faults disk.new) }
     ensures untouched { IsMade (D.seen disk.old) → D.seen disk.new ≡ D.seen disk.old }
-    ensures any_moment { IsSound ⟦<D as Disk>⟧ disk.old → Since ⟦<D as Disk>⟧ disk.old disk.new (AsBefore (D.may_leave disk.old)) }
+    ensures any_moment { IsSound ⟦<D as Disk>⟧ disk.old
+        → Since ⟦<D as Disk>⟧ disk.old disk.new (AsBefore (D.may_leave disk.old)) }
     ensures sound { IsSound ⟦<D as Disk>⟧ disk.old ↔ IsSound ⟦<D as Disk>⟧ disk.new }
     ensures later { D.faults disk.old ≤ D.faults disk.new }
 {
@@ -79,9 +85,12 @@ fn length_at<D: Disk>(disk: &mut D, gate: u64) -> Result<Option<u32>, JournalFau
     ensures bound { IfOk result (λ found. IfSome found (λ n. (0 < n) × (gate + 5 + n < 2 ^ 64))) }
     ensures seen { D.seen disk.new ≡ D.seen disk.old }
     ensures honest { D.honest disk.new ↔ D.honest disk.old }
-    ensures crash { D.honest disk.old → (c : List ℕ) → D.may_leave disk.new c → D.may_leave disk.old c }
-    ensures any_moment { D.honest disk.old → Since ⟦<D as Disk>⟧ disk.old disk.new (D.may_leave disk.old) }
-    ensures store { IsErrOf result JournalFault.StoreFault → Rose (D.faults disk.old) (D.faults disk.new) }
+    ensures crash { D.honest disk.old → (c : List ℕ) → D.may_leave disk.new c
+        → D.may_leave disk.old c }
+    ensures any_moment { D.honest disk.old
+        → Since ⟦<D as Disk>⟧ disk.old disk.new (D.may_leave disk.old) }
+    ensures store { IsErrOf result JournalFault.StoreFault
+        → Rose (D.faults disk.old) (D.faults disk.new) }
     ensures later { D.faults disk.old ≤ D.faults disk.new }
 {
     let size = disk.size()?;
@@ -99,12 +108,16 @@ fn length_at<D: Disk>(disk: &mut D, gate: u64) -> Result<Option<u32>, JournalFau
 // Reads the open frame at a gate, or none where it is closed.
 fn frame_at<D: Disk>(disk: &mut D, gate: u64) -> Result<Option<Text>, JournalFault>
     ensures frame { FrameIs (D.seen disk.old) gate result }
-    ensures bound { IfOk result (λ found. IfSome found (λ body. (0 < length body) × (gate + 5 + length body < 2 ^ 64))) }
+    ensures bound { IfOk result (λ found. IfSome found (λ body.
+        (0 < length body) × (gate + 5 + length body < 2 ^ 64))) }
     ensures seen { D.seen disk.new ≡ D.seen disk.old }
     ensures honest { D.honest disk.new ↔ D.honest disk.old }
-    ensures crash { D.honest disk.old → (c : List ℕ) → D.may_leave disk.new c → D.may_leave disk.old c }
-    ensures any_moment { D.honest disk.old → Since ⟦<D as Disk>⟧ disk.old disk.new (D.may_leave disk.old) }
-    ensures store { IsErrOf result JournalFault.StoreFault → Rose (D.faults disk.old) (D.faults disk.new) }
+    ensures crash { D.honest disk.old → (c : List ℕ) → D.may_leave disk.new c
+        → D.may_leave disk.old c }
+    ensures any_moment { D.honest disk.old
+        → Since ⟦<D as Disk>⟧ disk.old disk.new (D.may_leave disk.old) }
+    ensures store { IsErrOf result JournalFault.StoreFault
+        → Rose (D.faults disk.old) (D.faults disk.new) }
     ensures later { D.faults disk.old ≤ D.faults disk.new }
 {
     let length = match length_at(disk, gate)? {
@@ -124,15 +137,19 @@ impl<D: Disk> Journal<D> {
 
     /// Begins over a disk. A refusal hands it back.
     pub fn begin(alloc: Global, disk: D) -> Result<Journal<D>, (JournalFault, D)>
-        ensures begins { IfOk result (λ journal. (IsSound ⟦<D as Disk>⟧ disk ⊎ IsMade (D.seen disk)) → Begins (D.seen disk) (D.seen journal.disk)) }
-        ensures settled { IfOk result (λ journal. D.honest disk → IsSettled ⟦<D as Disk>⟧ journal.disk) }
+        ensures begins { IfOk result (λ journal. (IsSound ⟦<D as Disk>⟧ disk ⊎ IsMade (D.seen disk))
+            → Begins (D.seen disk) (D.seen journal.disk)) }
+        ensures settled { IfOk result (λ journal.
+            D.honest disk → IsSettled ⟦<D as Disk>⟧ journal.disk) }
         ensures at_gate { IfOk result (IsAtGate ⟦<D as Disk>⟧) }
         ensures place { IfOk result (λ journal. journal.place ≡ 15) }
         ensures head { OnOk result (HasHead (D.seen disk)) }
         ensures fault { IfErr result (λ refusal. HeadFault (D.seen disk) refusal.0) }
-        ensures store { IfErr result (λ refusal. refusal.0 ≡ JournalFault.StoreFault → Rose (D.faults disk) (D.faults refusal.1)) }
+        ensures store { IfErr result (λ refusal.
+            refusal.0 ≡ JournalFault.StoreFault → Rose (D.faults disk) (D.faults refusal.1)) }
         ensures untouched { IsMade (D.seen disk) → D.seen (disk_after result) ≡ D.seen disk }
-        ensures any_moment { IsSound ⟦<D as Disk>⟧ disk → Since ⟦<D as Disk>⟧ disk (disk_after result) (AsBefore (D.may_leave disk)) }
+        ensures any_moment { IsSound ⟦<D as Disk>⟧ disk
+            → Since ⟦<D as Disk>⟧ disk (disk_after result) (AsBefore (D.may_leave disk)) }
         ensures sound { IsSound ⟦<D as Disk>⟧ disk ↔ IsSound ⟦<D as Disk>⟧ (disk_after result) }
         ensures later { D.faults disk ≤ D.faults (disk_after result) }
     {
@@ -152,17 +169,22 @@ impl<D: Disk> Journal<D> {
     /// It syncs before it reads, so an entry of unknown fate is kept or lost from then on.
     pub fn restart(&mut self) -> Result<(), JournalFault>
         // Where nothing is written, the frames that lie ahead are known of every disk that tells.
-        ensures begins { OnOk result ((IsSound ⟦<D as Disk>⟧ self.old.disk ⊎ IsMade (D.seen self.old.disk)) → Begins (D.seen self.old.disk) (D.seen self.new.disk)) }
-        ensures settled { OnOk result (D.honest self.old.disk → IsSettled ⟦<D as Disk>⟧ self.new.disk) }
+        ensures begins { OnOk result ((IsSound ⟦<D as Disk>⟧ self.old.disk ⊎ IsMade (D.seen self.old.disk))
+            → Begins (D.seen self.old.disk) (D.seen self.new.disk)) }
+        ensures settled { OnOk result (
+            D.honest self.old.disk → IsSettled ⟦<D as Disk>⟧ self.new.disk) }
         ensures at_gate { OnOk result (IsAtGate ⟦<D as Disk>⟧ self.new) }
         ensures place { self.new.place ≡ 15 }
 
         ensures head { OnOk result (HasHead (D.seen self.old.disk)) }
         ensures fault { IfErr result (HeadFault (D.seen self.old.disk)) }
-        ensures store { IsErrOf result JournalFault.StoreFault → Rose (D.faults self.old.disk) (D.faults self.new.disk) }
+        ensures store { IsErrOf result JournalFault.StoreFault
+            → Rose (D.faults self.old.disk) (D.faults self.new.disk) }
 
-        ensures untouched { IsMade (D.seen self.old.disk) → D.seen self.new.disk ≡ D.seen self.old.disk }
-        ensures any_moment { IsSound ⟦<D as Disk>⟧ self.old.disk → Since ⟦<D as Disk>⟧ self.old.disk self.new.disk (AsBefore (D.may_leave self.old.disk)) }
+        ensures untouched { IsMade (D.seen self.old.disk)
+            → D.seen self.new.disk ≡ D.seen self.old.disk }
+        ensures any_moment { IsSound ⟦<D as Disk>⟧ self.old.disk
+            → Since ⟦<D as Disk>⟧ self.old.disk self.new.disk (AsBefore (D.may_leave self.old.disk)) }
         ensures sound { IsSound ⟦<D as Disk>⟧ self.old.disk ↔ IsSound ⟦<D as Disk>⟧ self.new.disk }
         ensures later { D.faults self.old.disk ≤ D.faults self.new.disk }
     {
@@ -181,7 +203,8 @@ impl<D: Disk> Journal<D> {
     /// Goes to another gate.
     pub fn seek(&mut self, place: u64)
         requires from_first { 15 ≤ place }
-        requires gate { IsSound ⟦<D as Disk>⟧ self.old.disk → (done : List (List ℕ)) × (ahead : Found) × Stands (D.seen self.old.disk) place done ahead }
+        requires gate { IsSound ⟦<D as Disk>⟧ self.old.disk
+            → (done : List (List ℕ)) × (ahead : Found) × Stands (D.seen self.old.disk) place done ahead }
         ensures { self.new ≡ record { disk = self.old.disk; place = place } }
     {
         self.place = place;
@@ -194,14 +217,20 @@ impl<D: Disk> Journal<D> {
         ensures seen { D.seen self.new.disk ≡ D.seen self.old.disk }
 
         // the same in the words of a reader who knows what he has read
-        ensures stands { (done : List (List ℕ)) (ahead : Found) → Stands (D.seen self.old.disk) self.old.place done ahead → NextIs (D.seen self.new.disk) self.new.place done ahead result }
+        ensures stands { (done : List (List ℕ)) (ahead : Found)
+            → Stands (D.seen self.old.disk) self.old.place done ahead
+            → NextIs (D.seen self.new.disk) self.new.place done ahead result }
         ensures at_gate { IsAtGate ⟦<D as Disk>⟧ self.old → IsAtGate ⟦<D as Disk>⟧ self.new }
-        ensures at_end { IsAtGate ⟦<D as Disk>⟧ self.old → IfOk result (λ body. IsNone body → IsAtEnd ⟦<D as Disk>⟧ self.new) }
+        ensures at_end { IsAtGate ⟦<D as Disk>⟧ self.old
+            → IfOk result (λ body. IsNone body → IsAtEnd ⟦<D as Disk>⟧ self.new) }
 
-        ensures settled { IsSettled ⟦<D as Disk>⟧ self.old.disk → IsSettled ⟦<D as Disk>⟧ self.new.disk }
-        ensures any_moment { D.honest self.old.disk → Since ⟦<D as Disk>⟧ self.old.disk self.new.disk (D.may_leave self.old.disk) }
+        ensures settled { IsSettled ⟦<D as Disk>⟧ self.old.disk
+            → IsSettled ⟦<D as Disk>⟧ self.new.disk }
+        ensures any_moment { D.honest self.old.disk
+            → Since ⟦<D as Disk>⟧ self.old.disk self.new.disk (D.may_leave self.old.disk) }
         ensures sound { IsSound ⟦<D as Disk>⟧ self.old.disk ↔ IsSound ⟦<D as Disk>⟧ self.new.disk }
-        ensures store { IsErrOf result JournalFault.StoreFault → Rose (D.faults self.old.disk) (D.faults self.new.disk) }
+        ensures store { IsErrOf result JournalFault.StoreFault
+            → Rose (D.faults self.old.disk) (D.faults self.new.disk) }
         ensures later { D.faults self.old.disk ≤ D.faults self.new.disk }
     {
         match frame_at(&mut self.disk, self.place)? {
@@ -220,17 +249,25 @@ impl<D: Disk> Journal<D> {
         requires body { 0 < length body.now }
         requires at_end { IsAtEnd ⟦<D as Disk>⟧ self.old }
 
-        ensures place { IfOk result (λ gate. (gate ≡ self.old.place) × (self.new.place ≡ self.old.place + 5 + length body.now)) }
-        ensures acknowledged { OnOk result ((bodies : List (List ℕ)) → Ends ⟦<D as Disk>⟧ self.old bodies → Ends ⟦<D as Disk>⟧ self.new (bodies ++ body.now ∷ [])) }
+        ensures place { IfOk result (λ gate. (gate ≡ self.old.place)
+            × (self.new.place ≡ self.old.place + 5 + length body.now)) }
+        ensures acknowledged { OnOk result ((bodies : List (List ℕ))
+            → Ends ⟦<D as Disk>⟧ self.old bodies
+            → Ends ⟦<D as Disk>⟧ self.new (bodies ++ body.now ∷ [])) }
         ensures at_end { OnOk result (IsAtEnd ⟦<D as Disk>⟧ self.new) }
-        // A crash at any moment of the call leaves the entries from before it, with the new one or without.
-        ensures any_moment { (bodies : List (List ℕ)) → Ends ⟦<D as Disk>⟧ self.old bodies → Since ⟦<D as Disk>⟧ self.old.disk self.new.disk (WithOrWithout bodies body.now) }
+        // A crash at any moment of the call leaves the bodies from before it, with the new one or without.
+        ensures any_moment { (bodies : List (List ℕ)) → Ends ⟦<D as Disk>⟧ self.old bodies
+            → Since ⟦<D as Disk>⟧ self.old.disk self.new.disk (WithOrWithout bodies body.now) }
 
         ensures room { OnOk result (HasRoom self.old.place (length body.now)) }
-        ensures full { IsErrOf result AppendRefusal.Full → (self.new ≡ self.old) × IsFull self.old.place (length body.now) }
-        ensures store { IsErrOf result AppendRefusal.StoreFault → HasRoom self.old.place (length body.now) × Rose (D.faults self.old.disk) (D.faults self.new.disk) }
+        ensures full { IsErrOf result AppendRefusal.Full
+            → (self.new ≡ self.old) × IsFull self.old.place (length body.now) }
+        ensures store { IsErrOf result AppendRefusal.StoreFault
+            → HasRoom self.old.place (length body.now)
+            × Rose (D.faults self.old.disk) (D.faults self.new.disk) }
         // Without room no device was called.
-        ensures memory { IsErrOf result AppendRefusal.NoMemory → (self.new ≡ self.old) ⊎ HasRoom self.old.place (length body.now) }
+        ensures memory { IsErrOf result AppendRefusal.NoMemory
+            → (self.new ≡ self.old) ⊎ HasRoom self.old.place (length body.now) }
 
         ensures still { OnErr result (self.new.place ≡ self.old.place) }
         ensures sound { IsSound ⟦<D as Disk>⟧ self.old.disk ↔ IsSound ⟦<D as Disk>⟧ self.new.disk }

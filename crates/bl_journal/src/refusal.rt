@@ -19,7 +19,8 @@ impl From<Outside> for AppendRefusal {
     ghost use Rattle.bl_outside.specs.declared.refusals.Outside.TheVariants.{Failed as device_failed, NoMemory as out_of_memory};
     ghost use Rattle.bl_journal.specs.declared.refusal.AppendRefusal.TheVariants.{StoreFault, NoMemory};
 
-    ghost from_gives = { λ outside refusal. (outside ≡ device_failed → refusal ≡ StoreFault) × (outside ≡ out_of_memory → refusal ≡ NoMemory) };
+    ghost from_gives = { λ outside refusal. (outside ≡ device_failed → refusal ≡ StoreFault)
+        × (outside ≡ out_of_memory → refusal ≡ NoMemory) };
 
     fn from(outside: Outside) -> AppendRefusal {
         match outside {
