@@ -3,7 +3,7 @@ use Rattle.std.specs.Prelude.{◌≡◌, ◌==◌, ◌<◌, ℕ, Bool, true, fal
 use Rattle.std.specs.declared.option.Option.{Option}
 use Rattle.std.specs.List.{All, flat_map}
 use Rattle.std.specs.Str.{IsUtf8}
-use Rattle.std.specs.FinSet as set
+use Rattle.bl_outside.specs.OrderedSet as set
 use Rattle.std.proofs.Common.{ap, arith}
 use Rattle.std.proofs.lemmas.Str.{IsUtf8-from_ascii}
 use Rattle.std.proofs.lemmas.Str.Ascii.{IsAscii-from_all}
@@ -18,7 +18,6 @@ use Rattle.bl_value.specs.declared.row.Row.{Row}
 use Rattle.bl_value.specs.declared.row.Row.TheVariants.{Vertex as vertex_row, Edge as edge_row, Bad}
 use Rattle.bl_graph.specs.Graph.{Graph, has_vertex, labels_of, values_at}
 use Rattle.bl_graph.specs.Admission.{added, admit, conflict, given_labels, is_among, label_changes, property_changes, replaced, unless_conflict}
-use Rattle.bl_graph.specs.Plain.{IsPlainChange, IsPlainRow}
 use Rattle.bl_cli.specs.Loads.{changes_in}
 use Rattle.bl_cli.specs.Printable.{IsTextChange, IsTextProperty, IsTextRow, IsTextValue, IsTextVertex}
 
@@ -44,7 +43,7 @@ given_texts graph id labels texts =
 
 -- a label that is added
 label_change : (id label : List ℕ) → IsUtf8 id → IsUtf8 label → IsTextChange (AddLabel id label)
-label_change id label id_text text = record { plain = tt; printable = (id_text, text); text = tt }
+label_change id label id_text text = record { printable = (id_text, text); text = tt }
 
 label_texts : (graph : Graph) (id : List ℕ) (labels : List (List ℕ)) → IsUtf8 id → All IsUtf8 labels → All IsTextChange (label_changes graph id labels)
 label_texts graph id labels id_text texts =
@@ -54,7 +53,7 @@ label_texts graph id labels id_text texts =
 
 -- a value of a vertex that is added
 value_change : (id key : List ℕ) (value : Value) → IsUtf8 id → IsUtf8 key → IsTextValue value → IsTextChange (AddValue Vertex id key value)
-value_change id key value id_text key_text is = record { plain = tt; printable = (id_text, key_text, is.printable); text = is.text }
+value_change id key value id_text key_text is = record { printable = (id_text, key_text, is.printable); text = is.text }
 
 -- a set property takes the place of nothing
 removals : (graph : Graph) (id : List ℕ) (property : Property) → property.single ≡ false → All IsTextChange (map (λ value. RemoveValue Vertex id property.key value) (replaced graph Vertex id property))
@@ -93,14 +92,3 @@ text_changes graph (vertex_row id labels properties) is =
     verdict_changes (conflict graph false Vertex id properties) (label_changes graph id labels ++ flat_map (property_changes graph Vertex id) properties) (vertex_changes graph id labels properties is)
 text_changes graph (edge_row id label from to properties) is = absurd is
 text_changes graph (Bad code column) is = absurd is
-
--- They are plain.
-pub plain_of : (changes : List Change) → All IsTextChange changes → All IsPlainChange changes
-plain_of changes all = All-weaker IsTextChange IsPlainChange (λ change is. is.plain) changes all
-
--- A row of texts is plain.
-pub plain_row_of : (row : Row) → IsTextRow row → IsPlainRow row
-plain_row_of (vertex_row id labels properties) is =
-    All-weaker IsTextProperty (λ property. property.single ≡ false) (λ property text. text.set) properties is.property_texts
-plain_row_of (edge_row id label from to properties) is = absurd is
-plain_row_of (Bad code column) is = absurd is

@@ -11,7 +11,6 @@ use Rattle.bl_value.specs.declared.column.ColumnUse.TheVariants.{Id, Label, From
 use Rattle.bl_value.specs.declared.row.Property.{Property as RowProperty}
 use Rattle.bl_value.specs.declared.row.Row.{Row}
 use Rattle.bl_value.specs.declared.row.Row.TheVariants.{Vertex, Edge, Bad}
-use Rattle.bl_graph.specs.Plain.{IsPlainChange}
 use Rattle.bl_change.specs.EventText.{HasTextValue}
 
 -- a text property of any number of values, with a name in UTF-8; system columns are text columns too
@@ -45,6 +44,5 @@ IsTextRow (Bad code column) = ⊥
 
 -- a change that such a row makes
 pub record IsTextChange (change : Change) : Type 0 where
-  pub plain : IsPlainChange change
   pub printable : IsPrintable change
   pub text : HasTextValue change

@@ -1,11 +1,10 @@
 // A load: the rows of a file, admitted into an empty graph one after another.
 ghost use Rattle.std.specs.Prelude.{◌≡◌, ◌≤◌, ◌+◌, ◌++◌, ◌<◌, ◌^◌, length, option_map, IfOk, IfSome, OnOk};
 ghost use Rattle.std.specs.List.{All};
-ghost use Rattle.bl_graph.specs.Plain.{IsPlainChange};
 ghost use Rattle.bl_graph.specs.Graph.{empty as empty_graph};
 ghost use Rattle.bl_graph.specs.Replay.{after};
 ghost use Rattle.bl_cli.specs.Printable.{IsTextChange, IsTextColumn, IsTextRow};
-ghost use Rattle.bl_cli.specs.Loads.{bytes_load, changes_in, file_rows, is_compressed, load_of, plain_rows, rows_behind, with_row, with_verdict};
+ghost use Rattle.bl_cli.specs.Loads.{bytes_load, file_rows, is_compressed, load_of, plain_rows, rows_behind, with_row, with_verdict};
 ghost use Rattle.bl_cli.specs.TakenRows.{TakesRecord};
 
 use crate::header::plain_columns;
@@ -48,7 +47,6 @@ impl Loaded {
 
 // Applies the changes from left to right.
 fn apply_all(graph: &mut Graph, changes: &List<Change>) -> Result<(), NoMemory>
-    requires { All IsPlainChange changes.now }
     ensures { OnOk result (graph.new ≡ after graph.old changes.now) }
 {
     for change in changes.as_slice() {
@@ -71,7 +69,6 @@ fn append(all: &mut List<Change>, changes: List<Change>) -> Result<(), NoMemory>
 fn take_verdict(loaded: &mut Loaded, verdict: Verdict) -> Result<(), NoMemory>
     requires few { loaded.old.duplicates < 2 ^ 32 }
     requires records { loaded.old.records < 2 ^ 32 }
-    requires plain { All IsPlainChange (changes_in verdict) }
     ensures { OnOk result (loaded.new ≡ with_verdict loaded.old verdict) }
 {
     loaded.records += 1;

@@ -154,10 +154,9 @@ impl Graph {
         }
     }
 
-    /// Applies a change that fits. After want of memory the graph is as it was. A removal takes no
-    /// memory.
+    /// Applies a change; one that fits keeps the graph valid. After want of memory the graph is as
+    /// it was. A removal takes no memory.
     pub fn apply(&mut self, change: &Change) -> Result<(), NoMemory>
-        requires { fits self.old change.now ≡ true }
         ensures ok { OnOk result (self.new ≡ after_one self.old change.now) }
         ensures err { OnErr result (self.new ≡ self.old) }
     {

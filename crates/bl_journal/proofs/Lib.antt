@@ -1,0 +1,9 @@
+mod Emptiness
+mod Bytes
+mod Reaching
+mod Standing
+mod Appending
+mod Calls
+mod Gates
+mod Reading
+mod Beginning
