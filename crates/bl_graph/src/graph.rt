@@ -1,5 +1,5 @@
 // The property graph, and the change applied.
-ghost use Rattle.std.specs.Prelude.{◌≡◌, ◌==◌, true, OnOk, OnErr};
+ghost use Rattle.std.specs.Prelude.{◌≡◌, ◌==◌, OnOk, OnErr};
 ghost use Rattle.std.specs.FinMap as map;
 ghost use Rattle.bl_outside.specs.OrderedSet as set;
 ghost use Rattle.std.specs.Option.{option_copied, option_map, unwrap_or};
