@@ -14,7 +14,6 @@ use Rattle.bl_graph.specs.Graph.{Graph, Values, ByText, Properties, at_key, keys
 use Rattle.bl_graph.specs.Replay.{with_values, with_keys, with_values_in, with_values_at}
 use Rattle.bl_graph.proofs.Maps.{itself}
 
-
 module _ {X : Type 0} (m : ByText X) (k : List ℕ) (x d : X) where
   stored : (none : Bool) → (none ≡ true → x ≡ d) → unwrap_or (map.get (if none then map.remove m k else map.insert m k x) k) d ≡ x
   stored true is = ap (λ o. unwrap_or o d) (map.get-remove nat_list_cmp_total m k k ∙ ap (λ b. cond b None (map.get m k)) (itself nat_list_cmp_total k)) ∙ sym (is refl)

@@ -2,4 +2,5 @@ pub mod Graph
 pub mod Replay
 pub mod Admission
 pub mod Admitted
+pub mod Sizes
 pub mod Codes

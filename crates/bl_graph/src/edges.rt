@@ -4,6 +4,7 @@ ghost use Rattle.std.specs.FinMap as map;
 ghost use Rattle.std.specs.Option.{option_copied};
 ghost use Rattle.bl_graph.specs.Admission.{is_edge};
 
+use crate::{Copied, copy_map};
 use bl_outside::{NoMemory, Text};
 use std::alloc::Global;
 use std::collections::BTreeMap;
@@ -84,6 +85,12 @@ impl Edges {
         }
     }
 
+    pub fn len(&self) -> u64
+        ensures { result ≡ map.len self.now }
+    {
+        self.edges.len() as u64
+    }
+
     pub fn get(&self, id: &Text) -> Option<&EdgeEnds>
         ensures { option_copied result ≡ map.get self.now id.now }
     {
@@ -103,5 +110,20 @@ impl Edges {
         let ends = EdgeEnds::of(self.alloc, label, from, to)?;
         self.edges.insert(id.copy(self.alloc)?, ends)?;
         Ok(())
+    }
+}
+
+impl Copied for EdgeEnds {
+    fn copied(&self, alloc: Global) -> Result<EdgeEnds, NoMemory> {
+        EdgeEnds::of(alloc, &self.label, &self.from, &self.to)
+    }
+}
+
+impl Copied for Edges {
+    fn copied(&self, alloc: Global) -> Result<Edges, NoMemory> {
+        Ok(Edges {
+            alloc,
+            edges: copy_map(alloc, &self.edges)?,
+        })
     }
 }

@@ -1,12 +1,13 @@
 // The property graph, and the change applied.
-ghost use Rattle.std.specs.Prelude.{◌≡◌, ◌==◌, OnOk, OnErr};
+ghost use Rattle.std.specs.Prelude.{◌≡◌, ◌==◌, min, IfOk, OnOk, OnErr};
 ghost use Rattle.std.specs.FinMap as map;
 ghost use Rattle.bl_outside.specs.OrderedSet as set;
+ghost use Rattle.bl_graph.specs.Sizes.{values_count};
 ghost use Rattle.std.specs.Option.{option_copied, option_map, unwrap_or};
 ghost use Rattle.bl_graph.specs.Graph.{empty, has_owner, has_vertex, labels_of, edge_of, values_at};
 ghost use Rattle.bl_graph.specs.Replay.{after_one, fits, may_take};
 
-use crate::{EdgeEnds, Edges, OwnedValues, ValueSet, Vertices};
+use crate::{Copied, EdgeEnds, Edges, OwnedValues, ValueSet, Vertices};
 use bl_outside::{NoMemory, Text};
 use bl_value::{Change, Side, Value};
 use std::alloc::Global;
@@ -47,6 +48,20 @@ impl Graph {
         }
     }
 
+    /// A graph with memory of its own.
+    pub fn copy(&self) -> Result<Graph, NoMemory>
+        ensures { IfOk result (λ copy. copy ≡ self.now) }
+    {
+        let alloc = self.alloc;
+        Ok(Graph {
+            alloc,
+            vertices: self.vertices.copied(alloc)?,
+            edges: self.edges.copied(alloc)?,
+            vertex_values: self.vertex_values.copied(alloc)?,
+            edge_values: self.edge_values.copied(alloc)?,
+        })
+    }
+
     pub(crate) fn allocator(&self) -> Global {
         self.alloc
     }
@@ -66,6 +81,21 @@ impl Graph {
             Some(ends) => Some(ends.parts()),
             None => None,
         }
+    }
+
+    /// How many vertices, edges and values there are. The values are counted in one pass. It takes
+    /// no memory.
+    pub fn sizes(&self) -> (u64, u64, u64)
+        ensures vertices { result.0 ≡ map.len self.now.labels }
+        ensures edges { result.1 ≡ map.len self.now.edges }
+        ensures values { result.2 ≡ min (values_count self.now) u64.MAX }
+    {
+        let values = self.vertex_values.count();
+        (
+            self.vertices.len(),
+            self.edges.len(),
+            values.saturating_add(self.edge_values.count()),
+        )
     }
 
     pub(crate) fn ends(&self, id: &Text) -> Option<&EdgeEnds>

@@ -1,12 +1,13 @@
 // The values of one vertex or edge, by key.
-ghost use Rattle.std.specs.Prelude.{◌≡◌, ◌==◌, false, IfOk, OnOk, OnErr};
+ghost use Rattle.std.specs.Prelude.{◌≡◌, ◌==◌, false, min, IfOk, OnOk, OnErr};
 ghost use Rattle.std.specs.FinMap as map;
 ghost use Rattle.bl_outside.specs.OrderedSet as set;
 ghost use Rattle.std.specs.Option.{option_copied, unwrap_or};
 ghost use Rattle.bl_graph.specs.Graph.{at_key, by_text, without};
 ghost use Rattle.bl_graph.specs.Replay.{with_values};
+ghost use Rattle.bl_graph.specs.Sizes.{count_in};
 
-use crate::ValueSet;
+use crate::{Copied, ValueSet, copy_map};
 use bl_outside::{NoMemory, Text};
 use bl_value::Value;
 use std::alloc::Global;
@@ -57,6 +58,17 @@ impl KeyedValues {
         self.keys.len() == 0
     }
 
+    /// How many values there are, counted in one pass. A count past the largest number is that.
+    pub fn count(&self) -> u64
+        ensures { result ≡ min (count_in self.now) u64.MAX }
+    {
+        let mut count: u64 = 0;
+        for values in self.keys.values() {
+            count = count.saturating_add(values.len());
+        }
+        count
+    }
+
     pub fn get(&self, key: &Text) -> Option<&ValueSet>
         ensures { unwrap_or (option_copied result) set.empty ≡ at_key self.now key.now }
     {
@@ -86,6 +98,15 @@ impl KeyedValues {
             return;
         }
         self.keys.remove(key);
+    }
+}
+
+impl Copied for KeyedValues {
+    fn copied(&self, alloc: Global) -> Result<KeyedValues, NoMemory> {
+        Ok(KeyedValues {
+            alloc,
+            keys: copy_map(alloc, &self.keys)?,
+        })
     }
 }
 

@@ -9,6 +9,7 @@
 #![tactic(auto)]
 
 mod admission;
+mod copied;
 mod edges;
 mod element_changes;
 mod graph;
@@ -20,6 +21,7 @@ mod value_set;
 mod verdict;
 mod vertices;
 
+use copied::{Copied, copy_map};
 use edges::{EdgeEnds, Edges};
 pub use graph::Graph;
 use keyed_values::KeyedValues;

@@ -1,12 +1,13 @@
 // The values of all vertices, or of all edges, by owner and key.
-ghost use Rattle.std.specs.Prelude.{◌≡◌, ◌==◌, false, OnOk, OnErr};
+ghost use Rattle.std.specs.Prelude.{◌≡◌, ◌==◌, false, min, OnOk, OnErr};
 ghost use Rattle.std.specs.FinMap as map;
 ghost use Rattle.bl_outside.specs.OrderedSet as set;
 ghost use Rattle.std.specs.Option.{option_copied, unwrap_or};
 ghost use Rattle.bl_graph.specs.Graph.{at_key, keys_in, by_text, without};
 ghost use Rattle.bl_graph.specs.Replay.{with_values, with_values_in};
+ghost use Rattle.bl_graph.specs.Sizes.{count_all};
 
-use crate::{KeyedValues, ValueSet};
+use crate::{Copied, KeyedValues, ValueSet, copy_map};
 use bl_outside::{NoMemory, Text};
 use bl_value::Value;
 use std::alloc::Global;
@@ -42,6 +43,17 @@ impl OwnedValues {
         }
     }
 
+    /// How many values there are, counted in one pass. A count past the largest number is that.
+    pub fn count(&self) -> u64
+        ensures { result ≡ min (count_all self.now) u64.MAX }
+    {
+        let mut count: u64 = 0;
+        for keys in self.owners.values() {
+            count = count.saturating_add(keys.count());
+        }
+        count
+    }
+
     pub fn get(&self, id: &Text, key: &Text) -> Option<&ValueSet>
         ensures { unwrap_or (option_copied result) set.empty ≡ at_key (keys_in self.now id.now) key.now }
     {
@@ -74,6 +86,15 @@ impl OwnedValues {
             return;
         }
         self.owners.remove(id);
+    }
+}
+
+impl Copied for OwnedValues {
+    fn copied(&self, alloc: Global) -> Result<OwnedValues, NoMemory> {
+        Ok(OwnedValues {
+            alloc,
+            owners: copy_map(alloc, &self.owners)?,
+        })
     }
 }
 

@@ -200,14 +200,18 @@ fn has_parts(graph: &Graph, id: &Text) -> bool {
     }
 }
 
+fn copy_has(alloc: Global, graph: &Graph) -> Result<bool, NoMemory> {
+    let copy = graph.copy()?;
+    let sizes = copy.sizes();
+    Ok(has_parts(&copy, &text(alloc, "e1")?) && sizes == (2, 1, 5))
+}
+
 #[test]
 fn rows_add_what_is_missing(rt: HostRuntime) {
     let mut graph = Graph::empty(rt.alloc());
     assert!(rt; loads_vertices(rt.alloc(), &mut graph) == Ok(true));
     assert!(rt; loads_edges(rt.alloc(), &mut graph) == Ok(true));
-    if let Ok(id) = text(rt.alloc(), "e1") {
-        assert!(rt; has_parts(&graph, &id));
-    }
+    assert!(rt; copy_has(rt.alloc(), &graph) == Ok(true));
 }
 
 #[test]

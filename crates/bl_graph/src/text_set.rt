@@ -2,6 +2,7 @@
 ghost use Rattle.std.specs.Prelude.{◌≡◌, IfOk, OnOk, OnErr};
 ghost use Rattle.bl_outside.specs.OrderedSet as set;
 
+use crate::Copied;
 use bl_outside::{NoMemory, Text};
 use std::alloc::Global;
 use std::collections::BTreeSet;
@@ -55,5 +56,15 @@ impl TextSet {
     {
         self.texts.insert(text)?;
         Ok(())
+    }
+}
+
+impl Copied for TextSet {
+    fn copied(&self, alloc: Global) -> Result<TextSet, NoMemory> {
+        let mut copy = TextSet::new(alloc);
+        for text in self.texts.iter() {
+            copy.insert(text.copy(alloc)?)?;
+        }
+        Ok(copy)
     }
 }

@@ -2,6 +2,7 @@
 ghost use Rattle.std.specs.Prelude.{◌≡◌, ◌==◌, IfOk, OnOk, OnErr};
 ghost use Rattle.bl_outside.specs.OrderedSet as set;
 
+use crate::Copied;
 use bl_outside::NoMemory;
 use bl_value::Value;
 use std::alloc::Global;
@@ -65,6 +66,12 @@ impl ValueSet {
         self.values.remove(value);
     }
 
+    pub fn len(&self) -> u64
+        ensures { result ≡ set.len self.now }
+    {
+        self.values.len() as u64
+    }
+
     pub fn is_empty(&self) -> bool
         ensures { result ≡ (set.len self.now == 0) }
     {
@@ -76,5 +83,15 @@ impl ValueSet {
         ensures { result ≡ set.items self.now }
     {
         self.values.iter()
+    }
+}
+
+impl Copied for ValueSet {
+    fn copied(&self, alloc: Global) -> Result<ValueSet, NoMemory> {
+        let mut copy = ValueSet::new(alloc);
+        for value in self.values.iter() {
+            copy.insert(value.copy(alloc)?)?;
+        }
+        Ok(copy)
     }
 }

@@ -4,7 +4,7 @@ ghost use Rattle.std.specs.FinMap as map;
 ghost use Rattle.bl_outside.specs.OrderedSet as set;
 ghost use Rattle.bl_graph.specs.Graph.{texts_at};
 
-use crate::TextSet;
+use crate::{Copied, TextSet, copy_map};
 use bl_outside::{NoMemory, Text};
 use std::alloc::Global;
 use std::collections::BTreeMap;
@@ -39,6 +39,12 @@ impl Vertices {
         }
     }
 
+    pub fn len(&self) -> u64
+        ensures { result ≡ map.len self.now }
+    {
+        self.labels.len() as u64
+    }
+
     pub fn contains(&self, id: &Text) -> bool
         ensures { result ≡ map.contains_key self.now id.now }
     {
@@ -68,5 +74,14 @@ impl Vertices {
                 Ok(())
             }
         }
+    }
+}
+
+impl Copied for Vertices {
+    fn copied(&self, alloc: Global) -> Result<Vertices, NoMemory> {
+        Ok(Vertices {
+            alloc,
+            labels: copy_map(alloc, &self.labels)?,
+        })
     }
 }
