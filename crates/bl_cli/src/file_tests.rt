@@ -2,7 +2,8 @@
 ghost use Rattle.std.specs.Prelude.{IfOk};
 ghost use Rattle.std.specs.Str.{IsUtf8};
 
-use crate::{FileRead, all_records, read_small_file};
+use crate::file::{FileRead, read_small_file};
+use crate::records::all_records;
 use bl_outside::{Faults, List, MemoryFolder, NoMemory, Outside, Text};
 use std::alloc::Global;
 

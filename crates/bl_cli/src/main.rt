@@ -20,6 +20,8 @@ mod loading;
 mod outputs;
 mod records;
 mod rows;
+#[cfg(test)]
+mod run_tests;
 mod source;
 mod status;
 mod top;

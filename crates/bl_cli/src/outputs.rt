@@ -120,15 +120,15 @@ pub fn load_output(
     if with_changes {
         push_changes(alloc, &mut text, moment, changes)?;
     }
-    push_line(
+    push_text(
         &mut text,
         &job_line(alloc, salt, "LOAD_COMPLETED", records, duplicates)?,
     )?;
     Ok(text)
 }
 
-fn push_line(text: &mut Text, line: &Text) -> Result<(), NoMemory>
-    ensures { OnOk result (text.new ≡ text.old ++ line.now) }
+fn push_text(text: &mut Text, piece: &Text) -> Result<(), NoMemory>
+    ensures { OnOk result (text.new ≡ text.old ++ piece.now) }
 {
-    text.extend(line.as_slice())
+    text.extend(piece.as_slice())
 }

@@ -17,3 +17,6 @@ pub use read_source::ReadSource;
 pub use real_folder::RealFolder;
 pub use system_clock::SystemClock;
 pub use write_sink::WriteSink;
+
+#[cfg(test)]
+mod tests;

@@ -1,0 +1,255 @@
+// Runs of the program over a folder, disks and streams in memory.
+use crate::{Status, run};
+use bl_outside::{
+    Disks, Faults, FixedClock, List, MemoryDisk, MemoryFolder, MemorySink, MemorySource, NoMemory,
+    Text,
+};
+use std::alloc::{AllocError, Global};
+use std::thread::Threads;
+
+#[derive(Drop)]
+struct Outcome {
+    status: Status,
+    out: Text,
+    err: Text,
+}
+
+// The call with this number fails, and none where it is 0.
+fn failing(alloc: Global, number: u64) -> Result<Faults, NoMemory> {
+    let mut fails = List::new(alloc);
+    if number > 0 {
+        fails.push(number)?;
+    }
+    Ok(Faults::of(fails, 0))
+}
+
+fn disk(alloc: Global) -> Result<MemoryDisk, NoMemory> {
+    MemoryDisk::new(alloc, Text::new(alloc), Faults::none(alloc))
+}
+
+fn words_of(alloc: Global, text: &str) -> Result<Vec<String>, AllocError> {
+    let mut words = Vec::new(alloc);
+    for word in text.split(' ') {
+        words.push(String::from_str(alloc, word)?)?;
+    }
+    Ok(words)
+}
+
+// A run over a folder with one file. The calls of the folder, the output and the error output that
+// are to fail are given by their numbers.
+fn run_over<R: Threads + Sync>(
+    runtime: &R,
+    alloc: Global,
+    words: &str,
+    bytes: &[u8],
+    fails: (u64, u64, u64),
+) -> Result<Outcome, NoMemory> {
+    let mut folder = MemoryFolder::new(alloc, 3_000, failing(alloc, fails.0)?);
+    folder.put_file(
+        Text::copy_of(alloc, b"b/x.csv")?,
+        Text::copy_of(alloc, bytes)?,
+    )?;
+    let disks = Disks {
+        journal: disk(alloc)?,
+        left: disk(alloc)?,
+        right: disk(alloc)?,
+    };
+    let mut input = MemorySource::new(Text::new(alloc), 1, Faults::none(alloc));
+    let mut out = MemorySink::new(alloc, failing(alloc, fails.1)?);
+    let mut err = MemorySink::new(alloc, failing(alloc, fails.2)?);
+    let words = words_of(alloc, words)?;
+    let (status, _) = run(
+        runtime,
+        alloc,
+        &words,
+        &mut folder,
+        disks,
+        &mut FixedClock::new(0),
+        0,
+        &mut input,
+        &mut out,
+        &mut err,
+    );
+    Ok(Outcome {
+        status,
+        out: out.bytes().copy(alloc)?,
+        err: err.bytes().copy(alloc)?,
+    })
+}
+
+// A head, and a part that comes several times.
+fn repeated(alloc: Global, head: &[u8], part: &[u8], times: usize) -> Result<Text, NoMemory> {
+    let mut text = Text::copy_of(alloc, head)?;
+    for _ in 0..times {
+        text.extend(part)?;
+    }
+    Ok(text)
+}
+
+const FIRST_LOAD: &[u8] =
+    b"{\"commitTimestamp\":0,\"data\":{\"id\":\"v1\",\"key\":\"label\",\"type\":\"vl\",\"value\":{\"dataType\":\"String\",\"value\":\"person\"}},\"eventId\":{\"commitNum\":1,\"opNum\":1},\"op\":\"ADD\"}\n{\"commitTimestamp\":0,\"data\":{\"id\":\"v1\",\"key\":\"name\",\"type\":\"vp\",\"value\":{\"dataType\":\"String\",\"value\":\"Ann\"}},\"eventId\":{\"commitNum\":1,\"opNum\":2},\"isLastOp\":true,\"op\":\"ADD\"}\n00000000-0000-4000-8000-000000000001 LOAD_COMPLETED 1 0 0 0 0\n";
+
+const PEOPLE: &[u8] = b"~id,~label,name:String\nv1,person,Ann\n";
+
+const NONE: &[u8] = b"";
+
+const NO_RECORD: &[u8] = b"00000000-0000-4000-8000-000000000001 LOAD_COMPLETED 0 0 0 0 0\n";
+
+const ONE: &[u8] = b"00000000-0000-4000-8000-000000000001 LOAD_COMPLETED 1 0 0 0 0\n";
+
+const TWO: &[u8] = b"00000000-0000-4000-8000-000000000001 LOAD_COMPLETED 2 0 0 0 0\n";
+
+const ONE_OF_TWO: &[u8] = b"00000000-0000-4000-8000-000000000001 LOAD_COMPLETED 2 1 0 0 0\n";
+
+const THOUSAND: &[u8] = b"00000000-0000-4000-8000-000000000001 LOAD_COMPLETED 1000 999 0 0 0\n";
+
+const FAILED: &[u8] = b"00000000-0000-4000-8000-000000000001 LOAD_FAILED 0 0 0 0 0\n";
+
+const USAGE: &[u8] = b"bl: usage: see help\n";
+
+const NOT_BUILT: &[u8] = b"bl: not built yet\n";
+
+const WRITE_FAULT: &[u8] = b"bl: write fault\n";
+
+#[test]
+fn the_words_and_the_folder_decide_the_answer(rt: HostRuntime) {
+    let table = [
+        (
+            "load s3://b/x.csv --changes",
+            (0, 0, 0),
+            Status::Ok,
+            FIRST_LOAD,
+            NONE,
+        ),
+        ("load s3://b/x.csv", (0, 0, 0), Status::Ok, ONE, NONE),
+        ("load s3://b/x.csv/", (0, 0, 0), Status::Ok, ONE, NONE),
+        ("load b/x.csv", (0, 0, 0), Status::Usage, NONE, USAGE),
+        (
+            "load s3://b/../x.csv",
+            (0, 0, 0),
+            Status::Usage,
+            NONE,
+            USAGE,
+        ),
+        ("load s3://B/x.csv", (0, 0, 0), Status::Usage, NONE, USAGE),
+        (
+            "load s3://b/x.csv --change",
+            (0, 0, 0),
+            Status::Usage,
+            NONE,
+            USAGE,
+        ),
+        ("help", (0, 0, 0), Status::Usage, NONE, USAGE),
+        ("load s3://b", (0, 0, 0), Status::NotBuilt, NONE, NOT_BUILT),
+        (
+            "load s3://b/y.csv",
+            (0, 0, 0),
+            Status::NotBuilt,
+            NONE,
+            NOT_BUILT,
+        ),
+        (
+            "load s3://b/x.csv",
+            (1, 0, 0),
+            Status::JobNotCompleted,
+            FAILED,
+            NONE,
+        ),
+        (
+            "load s3://b/x.csv",
+            (2, 0, 0),
+            Status::JobNotCompleted,
+            FAILED,
+            NONE,
+        ),
+        (
+            "load s3://b/x.csv",
+            (0, 1, 0),
+            Status::WriteFault,
+            b"00000000-0000-4000-8000-0000000".as_slice(),
+            WRITE_FAULT,
+        ),
+        (
+            "load b/x.csv",
+            (0, 0, 1),
+            Status::WriteFault,
+            NONE,
+            b"bl: usage:".as_slice(),
+        ),
+    ];
+    for (words, fails, status, out, err) in table {
+        let outcome = run_over(&rt, rt.alloc(), words, PEOPLE, fails).expect(&rt, "memory");
+        assert!(rt; outcome.status == status, "status of {words}");
+        assert!(rt; outcome.out.as_slice() == out, "output of {words}");
+        assert!(rt; outcome.err.as_slice() == err, "errors of {words}");
+    }
+}
+
+#[test]
+fn the_bytes_of_a_file_decide_what_is_loaded(rt: HostRuntime) {
+    let table = [
+        (b"~id\n".as_slice(), Status::Ok, NO_RECORD),
+        (b"~id,~label,name\n", Status::Ok, NO_RECORD),
+        (b"~id\nv1\nv1\n", Status::Ok, ONE_OF_TWO),
+        (b"~id,name\nv1,Ann\nv1,Bob\n", Status::Ok, TWO),
+        (b"~id,~label\nv1,a\nv1,b\n", Status::Ok, TWO),
+        (b"~id,a,b\r\nv1,1,2\r\n\r\nv2,,\r\n", Status::Ok, TWO),
+        (b"~id,a\nv1,\"x,\"\"y\"\"\nz\"\n", Status::Ok, ONE),
+        (b"~id\n v1 \nv1", Status::Ok, ONE_OF_TWO),
+        (b"", Status::NotBuilt, NONE),
+        (b"\xef\xbb\xbf~id\nv1\n", Status::NotBuilt, NONE),
+        (b"~id,age:Int\nv1,1\n", Status::NotBuilt, NONE),
+        (b"~id,name:string\nv1,Ann\n", Status::NotBuilt, NONE),
+        (b"name,~id\nAnn,v1\n", Status::NotBuilt, NONE),
+        (b"~id,a,a\nv1,1,2\n", Status::NotBuilt, NONE),
+        (b"~id,\nv1,\n", Status::NotBuilt, NONE),
+        (b"~id, a\nv1,1\n", Status::NotBuilt, NONE),
+        (b"~id,a\nv1\n", Status::NotBuilt, NONE),
+        (b"~id,a\nv1,\xff\n", Status::NotBuilt, NONE),
+        (b"~id,a\n,1\n", Status::NotBuilt, NONE),
+        (b"~id,~label\nv1,a;b\n", Status::NotBuilt, NONE),
+        (b"~id,~label\nv1,a\\b\n", Status::NotBuilt, NONE),
+    ];
+    for (bytes, status, out) in table {
+        let outcome = run_over(&rt, rt.alloc(), "load s3://b/x.csv", bytes, (0, 0, 0)).expect(
+            &rt, "memory",
+        );
+        assert!(rt; outcome.status == status, "status of {bytes:?}");
+        assert!(rt; outcome.out.as_slice() == out, "output of {bytes:?}");
+    }
+}
+
+#[test]
+fn files_at_the_limits_are_loaded_and_no_larger_ones(rt: HostRuntime) {
+    let table = [
+        (
+            b"~id\n".as_slice(),
+            b"a\n".as_slice(),
+            1_000,
+            b"".as_slice(),
+            Status::Ok,
+            THOUSAND,
+        ),
+        (b"~id\n", b"a\n", 1_001, b"", Status::NotBuilt, NONE),
+        (b"~id,t\na,", b"x", 16_375, b"\n", Status::Ok, ONE),
+        (b"~id,t\na,", b"x", 16_376, b"\n", Status::NotBuilt, NONE),
+        (b"~id,", b"n", 256, b"\nv1,1\n", Status::Ok, ONE),
+        (b"~id,", b"n", 257, b"\nv1,1\n", Status::NotBuilt, NONE),
+        (b"~id\n", b"v", 1_024, b"\n", Status::Ok, ONE),
+        (b"~id\n", b"v", 1_025, b"\n", Status::NotBuilt, NONE),
+    ];
+    for (head, part, times, tail, status, out) in table {
+        let mut bytes = repeated(rt.alloc(), head, part, times).expect(&rt, "memory");
+        bytes.extend(tail).expect(&rt, "memory");
+        let outcome = run_over(
+            &rt,
+            rt.alloc(),
+            "load s3://b/x.csv",
+            bytes.as_slice(),
+            (0, 0, 0),
+        )
+        .expect(&rt, "memory");
+        assert!(rt; outcome.status == status, "status at {times}");
+        assert!(rt; outcome.out.as_slice() == out, "output at {times}");
+    }
+}

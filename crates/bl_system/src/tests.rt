@@ -1,0 +1,90 @@
+// Each adapter once, over memory where that serves, else over a folder of the system's.
+ghost use Rattle.std.specs.Prelude.{IfOk};
+ghost use Rattle.std.specs.Str.{IsUtf8};
+
+use crate::{FileDisk, ReadSource, RealFolder, SystemClock, WriteSink};
+use bl_outside::{Clock, Disk, Folder, Listing, NoMemory, Piece, Sink, Source, Text};
+use std::alloc::{AllocError, Global};
+use std::fs::remove_dir_all;
+use std::io::Cursor;
+
+#[test]
+fn a_source_gives_what_its_reader_has(rt: HostRuntime) {
+    let mut source = ReadSource::new(Cursor::new(b"abc".as_slice()));
+    let mut room = [0u8; 2];
+    assert!(rt; source.take(&mut room) == Ok(2));
+    assert!(rt; room.as_slice() == b"ab".as_slice());
+    assert!(rt; source.take(&mut room) == Ok(1));
+    assert!(rt; source.take(&mut room) == Ok(0));
+}
+
+#[test]
+fn a_sink_writes_and_a_clock_goes(rt: HostRuntime) {
+    let mut sink = WriteSink::new(rt.stdout());
+    assert!(rt; sink.put(b"a line of a test\n").is_ok());
+    let mut clock = SystemClock::new(rt);
+    assert!(rt; clock.now() > 1_600_000_000_000);
+}
+
+fn text(alloc: Global, s: &str) -> Result<Text, NoMemory>
+    ensures { IfOk result IsUtf8 }
+{
+    Text::copy_of(alloc, s.as_bytes())
+}
+
+// Writes a journal, and tells whether its bytes come back.
+fn keeps<D: Disk>(disk: &mut D) -> bool
+    requires { D.honest disk.old → ⊥ }
+{
+    let wrote = disk.write_at(0, b"journal").is_ok() && disk.sync().is_ok();
+    let size = disk.size() == Ok(7);
+    match disk.read_at(2, 3) {
+        Ok(bytes) => wrote && size && bytes.as_slice() == b"urn".as_slice(),
+        Err(_) => false,
+    }
+}
+
+fn lists_one_file<F: Folder>(folder: &mut F, path: &Text) -> bool
+    requires { IsUtf8 path.now }
+{
+    matches!(&folder.list(path), Ok(Listing::OneFile))
+}
+
+fn reads_the_front<F: Folder>(folder: &mut F, path: &Text) -> bool
+    requires { IsUtf8 path.now }
+{
+    match folder.read_at(path, 0, 4) {
+        Ok(Piece::Bytes(bytes)) => bytes.as_slice() == b"jour".as_slice(),
+        _ => false,
+    }
+}
+
+// A folder that no earlier test has made.
+fn fresh_root(rt: HostRuntime) -> Result<String, AllocError> {
+    let now = SystemClock::new(rt).now();
+    let user = rt.process();
+    let number = std::process::id(user);
+    format!(in rt.alloc(); "/tmp/bl-system-{now}-{number}")
+}
+
+fn below(alloc: Global, root: &str, name: &str) -> Result<String, AllocError> {
+    format!(in alloc; "{root}/{name}")
+}
+
+#[test]
+fn a_disk_keeps_its_bytes_and_a_folder_reads_them(rt: HostRuntime) {
+    let alloc = rt.alloc();
+    let root = fresh_root(rt).expect(&rt, "memory");
+    let store = below(alloc, root.as_str(), "store").expect(&rt, "memory");
+    let path = below(alloc, store.as_str(), "journal.bl").expect(&rt, "memory");
+    let mut disk: FileDisk<HostRuntime> =
+        FileDisk::open(&rt, alloc, store.as_str(), path.as_str());
+    assert!(rt; keeps(&mut disk));
+    let there = text(alloc, "store/journal.bl").expect(&rt, "memory");
+    let missing = text(alloc, "store/none").expect(&rt, "memory");
+    let mut folder = RealFolder::new(rt, root.clone().expect(&rt, "memory"));
+    assert!(rt; lists_one_file(&mut folder, &there));
+    assert!(rt; reads_the_front(&mut folder, &there));
+    assert!(rt; !lists_one_file(&mut folder, &missing));
+    assert!(rt; remove_dir_all(&rt, root.as_str()).is_ok());
+}
