@@ -7,3 +7,4 @@ mod Apart
 mod Fitting
 mod FittingRows
 pub mod Admitted
+pub mod Duplicates
