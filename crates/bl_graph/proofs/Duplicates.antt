@@ -99,8 +99,8 @@ has_vertex_row graph id labels properties none =
     let known : has_vertex graph id ≡ true = sym (ap (λ cs. has_vertex (after graph cs) id) no_label) ∙ owner_by id graph labels (length labels == 0) (has_vertex graph id) refl refl in (
       known,
       to_all (λ label. set.contains (labels_of graph id) label ≡ true) labels
-      (subst (AllByRecursion (λ label. set.contains (labels_of graph id) label ≡ true)) (ap (λ b. if length labels == 0 && not b then codes "vertex" ∷ [] else labels) known ∙ known_given labels (length labels == 0))
-      (all_pass (set.contains (labels_of graph id)) given (nothing_in _ (missing id graph given) no_label))),
+          (subst (AllByRecursion (λ label. set.contains (labels_of graph id) label ≡ true)) (ap (λ b. if length labels == 0 && not b then codes "vertex" ∷ [] else labels) known ∙ known_given labels (length labels == 0))
+          (all_pass (set.contains (labels_of graph id)) given (nothing_in _ (missing id graph given) no_label))),
       to_all (HasProperty graph Vertex id) properties (has_properties graph Vertex id properties (later_nothing (label_changes graph id labels) (flat_map (property_changes graph Vertex id) properties) none)),
     )
 

@@ -8,3 +8,4 @@ mod Fitting
 mod FittingRows
 pub mod Admitted
 pub mod Duplicates
+pub mod Validity
