@@ -33,7 +33,7 @@ use Rattle.bl_graph.proofs.FittingRows.{none_apart, apart_by_order, by_recursion
 -- ---- labels
 
 module _ (id : List ℕ) where
-  abbrev labelled : List (List ℕ) → List Change
+  abbrev pub labelled : List (List ℕ) → List Change
   labelled labels = each (λ label. AddLabel id label) labels
 
   labels_with : (graph : Graph) (label : List ℕ) → labels_of (after_one graph (AddLabel id label)) id ≡ set.insert (labels_of graph id) label
@@ -64,7 +64,7 @@ module _ (id : List ℕ) where
   none_of (Some x) h = absurd (false≢true (sym h))
 
   -- the labels that aren't there
-  abbrev missing : Graph → List (List ℕ) → List (List ℕ)
+  abbrev pub missing : Graph → List (List ℕ) → List (List ℕ)
   missing graph labels = filter (λ label. not (set.contains (labels_of graph id) label)) labels
 
   new_has : (graph : Graph) (l : List ℕ) (ls : List (List ℕ)) → has_vertex graph id ≡ false → has_vertex (after graph (labelled (missing graph (l ∷ ls)))) id ≡ true
@@ -73,7 +73,7 @@ module _ (id : List ℕ) where
       (ap (λ (o : Option Texts). set.contains (unwrap_or o set.empty) l) (none_of (map.get graph.labels id) new) ∙ contains-empty (slice_cmp nat_cmp) l)
       ∙ known_stays (after_one graph (AddLabel id l)) (missing graph ls) (vertex_with graph l)
 
-  owner_by : (graph : Graph) (labels : List (List ℕ)) (none known : Bool) → (length labels == 0) ≡ none → has_vertex graph id ≡ known → has_vertex (after graph (labelled (missing graph (if none && not known then codes "vertex" ∷ [] else labels)))) id ≡ true
+  pub owner_by : (graph : Graph) (labels : List (List ℕ)) (none known : Bool) → (length labels == 0) ≡ none → has_vertex graph id ≡ known → has_vertex (after graph (labelled (missing graph (if none && not known then codes "vertex" ∷ [] else labels)))) id ≡ true
   owner_by graph labels true true none known = known_stays graph (missing graph labels) known
   owner_by graph labels false true none known = known_stays graph (missing graph labels) known
   owner_by graph labels true false none known = new_has graph (codes "vertex") [] known

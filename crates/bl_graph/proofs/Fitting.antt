@@ -23,11 +23,11 @@ use Rattle.bl_graph.proofs.ValueOrder.{value_cmp_total, exact_values}
 use Rattle.bl_graph.proofs.Lenses.{values_there, values_elsewhere, owner_stays}
 use Rattle.bl_graph.proofs.Apart.{all_two, all_map, take_all, gone, taken, still_missing, still_there}
 
-fits_first : (a b : Bool) → (a && b) ≡ true → a ≡ true
+pub fits_first : (a b : Bool) → (a && b) ≡ true → a ≡ true
 fits_first true b h = refl
 fits_first false b h = h
 
-fits_later : (a b : Bool) → (a && b) ≡ true → b ≡ true
+pub fits_later : (a b : Bool) → (a && b) ≡ true → b ≡ true
 fits_later true b h = h
 fits_later false b h = absurd (false≢true h)
 

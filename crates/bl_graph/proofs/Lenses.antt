@@ -29,12 +29,17 @@ keys_back all id keys = stored all id keys map.empty (map.len keys == 0) (λ h. 
 values_back : (keys : ByText Values) (key : List ℕ) (values : Values) → at_key (with_values keys key values) key ≡ values
 values_back keys key values = stored keys key values set.empty (set.len values == 0) (λ h. map.empty_of_len values (eqb-true (set.len values) 0 h))
 
-read_back : (all : Properties) (id key : List ℕ) (values : Values) → at_key (keys_in (with_values_in all id key values) id) key ≡ values
+pub read_back : (all : Properties) (id key : List ℕ) (values : Values) → at_key (keys_in (with_values_in all id key values) id) key ≡ values
 read_back all id key values = ap (λ m. at_key m key) (keys_back all id (with_values (keys_in all id) key values)) ∙ values_back (keys_in all id) key values
 
-read_apart : (all : Properties) (id key : List ℕ) (values : Values) (other : List ℕ) → eq_by_cmp (slice_cmp nat_cmp) other key ≡ false → at_key (keys_in (with_values_in all id key values) id) other ≡ at_key (keys_in all id) other
+pub read_apart : (all : Properties) (id key : List ℕ) (values : Values) (other : List ℕ) → eq_by_cmp (slice_cmp nat_cmp) other key ≡ false → at_key (keys_in (with_values_in all id key values) id) other ≡ at_key (keys_in all id) other
 read_apart all id key values other h =
     ap (λ m. at_key m other) (keys_back all id (with_values (keys_in all id) key values)) ∙ elsewhere (keys_in all id) key values set.empty (set.len values == 0) other h
+
+-- the values of another owner are as they were
+pub other_owner : (all : Properties) (id key : List ℕ) (values : Values) (other at : List ℕ) → eq_by_cmp (slice_cmp nat_cmp) other id ≡ false → at_key (keys_in (with_values_in all id key values) other) at ≡ at_key (keys_in all other) at
+other_owner all id key values other at h =
+    ap (λ m. at_key m at) (elsewhere all id (with_values (keys_in all id) key values) map.empty (map.len (with_values (keys_in all id) key values) == 0) other h)
 
 -- what was put at a key is there
 pub values_there : (graph : Graph) (side : Side) (id key : List ℕ) (values : Values) → values_at (with_values_at graph side id key values) side id key ≡ values

@@ -7,3 +7,5 @@ mod Apart
 mod Fitting
 mod FittingRows
 pub mod Admitted
+pub mod Duplicates
+pub mod Validity

@@ -3,4 +3,5 @@ pub mod Replay
 pub mod Admission
 pub mod Admitted
 pub mod Sizes
+pub mod ValidGraph
 pub mod Codes

@@ -1,5 +1,5 @@
 -- Single changes, and lists of them, applied to a graph.
-use Rattle.std.specs.Prelude.{ℕ, ◌==◌, Bool, true, not, ◌&&◌, if◌then◌else◌, List, [], ◌∷◌, is_none}
+use Rattle.std.specs.Prelude.{◌≡◌, ◌++◌, ℕ, ◌==◌, Bool, true, not, ◌&&◌, if◌then◌else◌, List, [], ◌∷◌, is_none}
 use Rattle.std.specs.FinMap as map
 use Rattle.bl_outside.specs.OrderedSet as set
 use Rattle.bl_value.specs.declared.column.Side.{Side}
@@ -51,3 +51,7 @@ fits graph (RemoveValue side id key value) = set.contains (values_at graph side 
 abbrev pub fit : Graph → List Change → Bool
 fit graph [] = true
 fit graph (change ∷ changes) = fits graph change && fit (after_one graph change) changes
+
+-- The changes of two lists, one list after the other, are those of one.
+abbrev pub IsOneFold : Type 0
+IsOneFold = (graph : Graph) (changes more : List Change) → after graph (changes ++ more) ≡ after (after graph changes) more

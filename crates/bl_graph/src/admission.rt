@@ -1,7 +1,7 @@
 // What a row does to the graph.
 ghost use Rattle.std.specs.Prelude.{◌≡◌, IfOk};
 ghost use Rattle.bl_graph.specs.Admission.{admit, changed, edge_refusal};
-ghost use Rattle.bl_graph.specs.Admitted.{DoesFit, IsProperRow};
+ghost use Rattle.bl_graph.specs.Admitted.{DoesFit, IsProperRow, SaysNothingNew};
 ghost use Rattle.bl_graph.specs.Graph.{edge_of};
 
 use crate::{Graph, Verdict};
@@ -21,10 +21,11 @@ fn verdict_of(changes: List<Change>) -> Verdict
 
 impl Graph {
     /// What the row does to the graph, which stays as it is. The changes of a proper row may be
-    /// applied, each in turn.
+    /// applied, each in turn. Where the row is a duplicate the graph has all that it says.
     pub fn admit(&self, update_single: bool, row: &Row) -> Result<Verdict, NoMemory>
         ensures verdict { IfOk result (λ verdict. verdict ≡ admit self.now update_single row.now) }
         ensures fit { IfOk result (λ verdict. IsProperRow row.now → DoesFit self.now verdict) }
+        ensures duplicate { IfOk result (SaysNothingNew self.now row.now) }
     {
         self.admit_row(update_single, row)
     }

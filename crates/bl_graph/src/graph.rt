@@ -3,6 +3,7 @@ ghost use Rattle.std.specs.Prelude.{◌≡◌, ◌==◌, min, IfOk, OnOk, OnErr}
 ghost use Rattle.std.specs.FinMap as map;
 ghost use Rattle.bl_outside.specs.OrderedSet as set;
 ghost use Rattle.bl_graph.specs.Sizes.{values_count};
+ghost use Rattle.bl_graph.specs.ValidGraph.{IsValidGraph};
 ghost use Rattle.std.specs.Option.{option_copied, option_map, unwrap_or};
 ghost use Rattle.bl_graph.specs.Graph.{empty, has_owner, has_vertex, labels_of, edge_of, values_at};
 ghost use Rattle.bl_graph.specs.Replay.{after_one, fits, may_take};
@@ -37,7 +38,8 @@ impl Model for Graph {
 impl Graph {
     /// The graph without anything. It takes no memory.
     pub fn empty(alloc: Global) -> Graph
-        ensures { result ≡ empty }
+        ensures empty { result ≡ empty }
+        ensures valid { IsValidGraph result }
     {
         Graph {
             alloc,
@@ -187,6 +189,14 @@ impl Graph {
     /// Applies a change; one that fits keeps the graph valid. After want of memory the graph is as
     /// it was. A removal takes no memory.
     pub fn apply(&mut self, change: &Change) -> Result<(), NoMemory>
+        ensures ok { OnOk result (self.new ≡ after_one self.old change.now) }
+        ensures err { OnErr result (self.new ≡ self.old) }
+        ensures valid { OnOk result (IsValidGraph self.old → IsValidGraph self.new) }
+    {
+        self.make(change)
+    }
+
+    fn make(&mut self, change: &Change) -> Result<(), NoMemory>
         ensures ok { OnOk result (self.new ≡ after_one self.old change.now) }
         ensures err { OnErr result (self.new ≡ self.old) }
     {

@@ -5,7 +5,8 @@
 //! may be made. Contracts see the graph as the finite maps of its definition.
 //!
 //! Words of the contracts: `specs/Graph` (the maps), `specs/Replay` (changes applied),
-//! `specs/Admission` (what a row does). This crate stands on `bl_value`.
+//! `specs/Admission` (what a row does), `specs/Admitted` (what is promised of that),
+//! `specs/ValidGraph`, `specs/Sizes`. This crate stands on `bl_value` and `bl_outside`.
 #![tactic(auto)]
 
 mod admission;
@@ -14,6 +15,7 @@ mod edges;
 mod element_changes;
 mod graph;
 mod keyed_values;
+mod laws;
 mod owned_values;
 mod property_changes;
 mod text_set;
@@ -25,6 +27,7 @@ use copied::{Copied, copy_map};
 use edges::{EdgeEnds, Edges};
 pub use graph::Graph;
 use keyed_values::KeyedValues;
+pub use laws::replay_is_one_fold;
 use owned_values::OwnedValues;
 use text_set::TextSet;
 use value_set::ValueSet;
