@@ -1,5 +1,5 @@
 // The property graph, and the change applied.
-ghost use Rattle.std.specs.Prelude.{◌≡◌, ◌==◌, min, IfOk, OnOk, OnErr};
+ghost use Rattle.std.specs.Prelude.{◌≡◌, ◌==◌, true, min, IfOk, OnOk, OnErr};
 ghost use Rattle.std.specs.FinMap as map;
 ghost use Rattle.bl_outside.specs.OrderedSet as set;
 ghost use Rattle.bl_graph.specs.Sizes.{values_count};
@@ -191,7 +191,7 @@ impl Graph {
     pub fn apply(&mut self, change: &Change) -> Result<(), NoMemory>
         ensures ok { OnOk result (self.new ≡ after_one self.old change.now) }
         ensures err { OnErr result (self.new ≡ self.old) }
-        ensures valid { OnOk result (IsValidGraph self.old → IsValidGraph self.new) }
+        ensures valid { OnOk result (fits self.old change.now ≡ true → IsValidGraph self.old → IsValidGraph self.new) }
     {
         self.make(change)
     }

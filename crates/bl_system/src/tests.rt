@@ -77,8 +77,7 @@ fn a_disk_keeps_its_bytes_and_a_folder_reads_them(rt: HostRuntime) {
     let root = fresh_root(rt).expect(&rt, "memory");
     let store = below(alloc, root.as_str(), "store").expect(&rt, "memory");
     let path = below(alloc, store.as_str(), "journal.bl").expect(&rt, "memory");
-    let mut disk: FileDisk<HostRuntime> =
-        FileDisk::open(&rt, alloc, store.as_str(), path.as_str());
+    let mut disk: FileDisk<HostRuntime> = FileDisk::open(&rt, alloc, store.as_str(), path.as_str());
     assert!(rt; keeps(&mut disk));
     let there = text(alloc, "store/journal.bl").expect(&rt, "memory");
     let missing = text(alloc, "store/none").expect(&rt, "memory");

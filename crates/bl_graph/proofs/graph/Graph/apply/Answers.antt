@@ -6,4 +6,4 @@ use Rattle.bl_graph.proofs.graph.Graph.apply.Goals as goal
 
 pub returns-clause-valid : goal.returns-clause-valid
 returns-clause-valid c =
-    on_ok_weaker c.make.result (λ e valid. subst IsValidGraph (sym e) (valid_after c.args.self.now valid c.args.change.now c.requires)) c.make.ensures.ok
+    on_ok_weaker c.make.result (λ e fits valid. subst IsValidGraph (sym e) (valid_after c.args.self.now valid c.args.change.now fits)) c.make.ensures.ok
