@@ -1,5 +1,7 @@
 // The journal over a disk in memory.
-ghost use Rattle.bl_journal.specs.Journals.{IsAtEnd, IsAtGate};
+ghost use Rattle.std.specs.Prelude.{◌≡◌, ◌+◌, ◌*◌, ◌++◌, [], None, List, ℕ, length, OnOk, IfOk, IfSome};
+ghost use Rattle.bl_journal.specs.Journals.{Ends, IsAtGate, Stands};
+ghost use Rattle.bl_bench.specs.Counting.{Counted, alike};
 
 use bl_journal::{AppendRefusal, Journal};
 use bl_outside::{Disk, Faults, JournalFault, MemoryDisk, Text};
@@ -14,8 +16,11 @@ pub struct Counts {
 
 const BODY: [u8; 100] = [7; 100];
 
-fn append_frames<D: Disk>(journal: &mut Journal<D>, frames: u64) -> Result<(), AppendRefusal>
-    requires { IsAtEnd ⟦<D as Disk>⟧ journal.old }
+// Appends frames that are all alike, and answers the place of the gate behind them.
+fn append_frames(journal: &mut Journal<MemoryDisk>, frames: u64) -> Result<(), AppendRefusal>
+    requires { Ends ⟦<MemoryDisk as Disk>⟧ journal.old [] }
+    ensures ends { OnOk result (Ends ⟦<MemoryDisk as Disk>⟧ journal.new (alike frames)) }
+    ensures place { OnOk result (journal.new.place ≡ journal.old.place + 105 * frames) }
 {
     for _ in 0..frames {
         journal.append(&BODY)?;
@@ -24,44 +29,72 @@ fn append_frames<D: Disk>(journal: &mut Journal<D>, frames: u64) -> Result<(), A
 }
 
 // The same where the journal is new.
-fn fill<D: Disk>(journal: &mut Journal<D>, frames: u64) -> Option<()>
-    requires { IsAtGate ⟦<D as Disk>⟧ journal.old }
+fn fill(journal: &mut Journal<MemoryDisk>, frames: u64) -> Option<()>
+    requires gate { IsAtGate ⟦<MemoryDisk as Disk>⟧ journal.old }
+    requires new { Stands (⟦<MemoryDisk as Disk>⟧.seen journal.old.disk) journal.old.place [] ([], None) }
+    ensures ends { IfSome result (λ _. Ends ⟦<MemoryDisk as Disk>⟧ journal.new (alike frames)) }
+    ensures place { IfSome result (λ _. journal.new.place ≡ journal.old.place + 105 * frames) }
 {
-    match journal.next() {
-        Ok(None) => append_frames(journal, frames).ok(),
-        _ => None,
-    }
+    let Ok(None) = journal.next() else {
+        return None;
+    };
+    append_frames(journal, frames).ok()
 }
 
-fn read_frames<D: Disk>(journal: &mut Journal<D>) -> Result<Counts, JournalFault> {
-    let mut bytes: u64 = 0;
-    for frames in 0..u64::MAX {
-        match journal.next()? {
-            None => return Ok(Counts { frames, bytes }),
-            Some(body) => bytes = bytes.saturating_add(body.len() as u64),
-        }
-    }
-    Err(JournalFault::NoMemory)
-}
-
-// A disk in memory with a journal of this many frames.
-fn filled(alloc: Global, frames: u64) -> Option<MemoryDisk> {
-    let disk = MemoryDisk::new(alloc, Text::new(alloc), Faults::none(alloc)).ok()?;
+// A journal of this many frames over a disk in memory.
+fn filled(alloc: Global, frames: u64) -> Option<Journal<MemoryDisk>>
+    ensures ends { IfSome result (λ journal. Ends ⟦<MemoryDisk as Disk>⟧ journal (alike frames)) }
+    ensures place { IfSome result (λ journal. journal.place ≡ 15 + 105 * frames) }
+{
+    let Ok(disk) = MemoryDisk::new(alloc, Text::new(alloc), Faults::none(alloc)) else {
+        return None;
+    };
     let Ok(mut journal) = Journal::begin(alloc, disk) else {
         return None;
     };
     fill(&mut journal, frames)?;
-    Some(journal.into_disk())
+    Some(journal)
 }
 
-/// Appends frames to a new journal, and counts the bytes of its file.
-pub fn append(alloc: Global, frames: u64) -> Option<Counts> {
-    let bytes = filled(alloc, frames)?.size().ok()?;
-    Some(Counts { frames, bytes })
+// Reads a journal to its end. None where it can't be read, or a count is at its end.
+fn read_frames(journal: &mut Journal<MemoryDisk>) -> Option<Counts>
+    requires { IsAtGate ⟦<MemoryDisk as Disk>⟧ journal.old }
+    ensures { (bodies : List (List ℕ)) → Stands (⟦<MemoryDisk as Disk>⟧.seen journal.old.disk) journal.old.place [] (bodies, None)
+        → IfSome result (Counted bodies) }
+{
+    let mut bytes: u64 = 0;
+    for frames in 0..u64::MAX {
+        let Ok(found) = journal.next() else {
+            return None;
+        };
+        let Some(body) = found else {
+            return Some(Counts { frames, bytes });
+        };
+        bytes = bytes.checked_add(body.len() as u64)?;
+    }
+    None
+}
+
+/// Appends frames to a new journal, and counts the bytes up to the gate behind them.
+pub fn append(alloc: Global, frames: u64) -> Option<Counts>
+    ensures frames { IfSome result (λ counts. counts.frames ≡ frames) }
+    ensures bytes { IfSome result (λ counts. counts.bytes ≡ 15 + 105 * frames) }
+{
+    let journal = filled(alloc, frames)?;
+    Some(Counts {
+        frames,
+        bytes: journal.place(),
+    })
 }
 
 /// Appends frames, opens the journal again, and counts the frames and the bytes of their bodies.
-pub fn open(alloc: Global, frames: u64) -> Option<Counts> {
-    let mut journal = Journal::begin(alloc, filled(alloc, frames)?).ok()?;
-    read_frames(&mut journal).ok()
+pub fn open(alloc: Global, frames: u64) -> Option<Counts>
+    ensures frames { IfSome result (λ counts. counts.frames ≡ frames) }
+    ensures bytes { IfSome result (λ counts. counts.bytes ≡ 100 * frames) }
+{
+    let filled = filled(alloc, frames)?;
+    let Ok(mut journal) = Journal::begin(alloc, filled.into_disk()) else {
+        return None;
+    };
+    read_frames(&mut journal)
 }
