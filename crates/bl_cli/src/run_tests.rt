@@ -112,74 +112,53 @@ const NOT_BUILT: &[u8] = b"bl: not built yet\n";
 const WRITE_FAULT: &[u8] = b"bl: write fault\n";
 
 #[test]
-fn the_words_and_the_folder_decide_the_answer(rt: HostRuntime) {
+fn the_words_decide_what_is_loaded(rt: HostRuntime) {
     let table = [
-        (
-            "load s3://b/x.csv --changes",
-            (0, 0, 0),
-            Status::Ok,
-            FIRST_LOAD,
-            NONE,
-        ),
-        ("load s3://b/x.csv", (0, 0, 0), Status::Ok, ONE, NONE),
-        ("load s3://b/x.csv/", (0, 0, 0), Status::Ok, ONE, NONE),
-        ("load b/x.csv", (0, 0, 0), Status::Usage, NONE, USAGE),
-        (
-            "load s3://b/../x.csv",
-            (0, 0, 0),
-            Status::Usage,
-            NONE,
-            USAGE,
-        ),
-        ("load s3://B/x.csv", (0, 0, 0), Status::Usage, NONE, USAGE),
-        (
-            "load s3://b/x.csv --change",
-            (0, 0, 0),
-            Status::Usage,
-            NONE,
-            USAGE,
-        ),
-        ("help", (0, 0, 0), Status::Usage, NONE, USAGE),
-        ("load s3://b", (0, 0, 0), Status::NotBuilt, NONE, NOT_BUILT),
-        (
-            "load s3://b/y.csv",
-            (0, 0, 0),
-            Status::NotBuilt,
-            NONE,
-            NOT_BUILT,
-        ),
-        (
-            "load s3://b/x.csv",
-            (1, 0, 0),
-            Status::JobNotCompleted,
-            FAILED,
-            NONE,
-        ),
-        (
-            "load s3://b/x.csv",
-            (2, 0, 0),
-            Status::JobNotCompleted,
-            FAILED,
-            NONE,
-        ),
+        ("load s3://b/x.csv --changes", Status::Ok, FIRST_LOAD, NONE),
+        ("load s3://b/x.csv", Status::Ok, ONE, NONE),
+        ("load s3://b/x.csv/", Status::Ok, ONE, NONE),
+        ("load b/x.csv", Status::Usage, NONE, USAGE),
+        ("load s3://b/../x.csv", Status::Usage, NONE, USAGE),
+        ("load s3://B/x.csv", Status::Usage, NONE, USAGE),
+        ("load s3://b/x.csv --change", Status::Usage, NONE, USAGE),
+        ("help", Status::Usage, NONE, USAGE),
+        ("load s3://b", Status::NotBuilt, NONE, NOT_BUILT),
+        ("load s3://b/y.csv", Status::NotBuilt, NONE, NOT_BUILT),
+    ];
+    for (words, status, out, err) in table {
+        let outcome = run_over(&rt, rt.alloc(), words, PEOPLE, (0, 0, 0)).expect(&rt, "memory");
+        assert!(rt; outcome.status == status, "status of {words}");
+        assert!(rt; outcome.out.as_slice() == out, "output of {words}");
+        assert!(rt; outcome.err.as_slice() == err, "errors of {words}");
+    }
+}
+
+#[test]
+fn a_fault_of_the_folder_is_a_failed_job(rt: HostRuntime) {
+    for call in [1, 2] {
+        let outcome = run_over(&rt, rt.alloc(), "load s3://b/x.csv", PEOPLE, (call, 0, 0)).expect(
+            &rt, "memory",
+        );
+        assert!(rt; outcome.status == Status::JobNotCompleted, "call {call}");
+        assert!(rt; outcome.out.as_slice() == FAILED, "call {call}");
+        assert!(rt; outcome.err.is_empty(), "call {call}");
+    }
+}
+
+#[test]
+fn a_fault_of_a_sink_is_a_write_fault(rt: HostRuntime) {
+    let table = [
         (
             "load s3://b/x.csv",
             (0, 1, 0),
-            Status::WriteFault,
             b"00000000-0000-4000-8000-0000000".as_slice(),
             WRITE_FAULT,
         ),
-        (
-            "load b/x.csv",
-            (0, 0, 1),
-            Status::WriteFault,
-            NONE,
-            b"bl: usage:".as_slice(),
-        ),
+        ("load b/x.csv", (0, 0, 1), NONE, b"bl: usage:".as_slice()),
     ];
-    for (words, fails, status, out, err) in table {
+    for (words, fails, out, err) in table {
         let outcome = run_over(&rt, rt.alloc(), words, PEOPLE, fails).expect(&rt, "memory");
-        assert!(rt; outcome.status == status, "status of {words}");
+        assert!(rt; outcome.status == Status::WriteFault, "status of {words}");
         assert!(rt; outcome.out.as_slice() == out, "output of {words}");
         assert!(rt; outcome.err.as_slice() == err, "errors of {words}");
     }
