@@ -1,4 +1,5 @@
 pub mod Order
 pub mod Valid
 pub mod Cells
+pub mod Dates
 pub mod Json

@@ -13,13 +13,16 @@
 mod cell;
 mod change;
 mod column;
+mod date;
+mod date_text;
+mod integer;
 mod json_text;
 mod log_code;
 mod row;
 mod value;
 mod value_type;
 
-pub use cell::{CellRefusal, read_cell, without_spaces};
+pub use cell::{CellRefusal, is_empty_cell, read_cell, without_spaces};
 pub use change::{Change, copy_changes};
 pub use column::{Column, ColumnUse, Columns, Side};
 pub use json_text::{json_of, json_value};
