@@ -2,9 +2,9 @@
 use Rattle.std.specs.Prelude.{◌==◌, ℕ, ◌+◌, ◌-◌, ◌*◌, ◌^◌, nat_le, nat_lt, Bool, true, false, not, ◌&&◌, ◌||◌, if◌then◌else◌, codes, ℤ, pos, neg_ℤ, ◌+ℤ◌, ◌*ℤ◌, int_le, int_lt, List, [], ◌∷◌, ◌++◌, drop, filter, length, map, reverse, Ok, Err}
 use Rattle.std.specs.declared.result.Result.{Result}
 use Rattle.std.specs.Char.{is_ascii_digit}
-use Rattle.std.specs.List.{list_any}
+use Rattle.std.specs.List.{list_all, list_any}
 use Rattle.std.specs.Ordering.{is_eq}
-use Rattle.std.specs.Str.{all_ascii_digits, is_utf8, str_eq_ignore_ascii_case}
+use Rattle.std.specs.Str.{is_utf8, str_eq_ignore_ascii_case}
 use Rattle.std.specs.Str.Parse.{signed_digits_value, without_leading_sign}
 use Rattle.jiff_core.specs.Calendar.{days_from_civil, days_in_month}
 use Rattle.bl_value.specs.Order.{value_cmp}
@@ -26,7 +26,7 @@ without_spaces cell = reverse (without_spaces_in_front (reverse (without_spaces_
 
 -- an optional sign, then one digit or more
 abbrev pub is_integer : List ℕ → Bool
-is_integer text = not (length (without_leading_sign text) == 0) && all_ascii_digits (without_leading_sign text)
+is_integer text = not (length (without_leading_sign text) == 0) && list_all is_ascii_digit (without_leading_sign text)
 
 -- a number of that many signed bits
 abbrev pub fits : ℕ → ℤ → Bool

@@ -38,9 +38,9 @@ pub fn read_cell(alloc: Global, kind: ValueType, cell: &[u8]) -> Result<Value, C
         (λ refusal. (refusal ≡ out_of_memory) ⊎ (cells.cell kind cell.now ≡ Err refusal)) }
     ensures valid { IfOk result IsValue }
 {
-    if str::from_utf8(cell).is_err() {
+    let Ok(_) = str::from_utf8(cell) else {
         return Err(CellRefusal::NotUtf8);
-    }
+    };
     read_text(alloc, kind, cell)
 }
 

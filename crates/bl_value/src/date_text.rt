@@ -1,8 +1,7 @@
 // The text of a date (ISO 8601).
-ghost use Rattle.std.specs.Prelude.{◌≡◌, ◌+◌, ◌*◌, ◌<◌, pos, IfOk};
+ghost use Rattle.std.specs.Prelude.{◌≡◌, ◌/◌, ◌%◌, ◌<◌, IfOk};
 ghost use Rattle.std.specs.String.{string_bytes};
 ghost use Rattle.jiff_core.specs.Date.{epoch_day};
-ghost use Rattle.jiff_core.specs.Time.{time_seconds};
 ghost use Rattle.bl_value.specs.Dates.{IsDayNumber, date_text};
 ghost use Rattle.bl_value.specs.Valid.{IsDate};
 
@@ -36,7 +35,9 @@ fn date_of(day: i64) -> civil::Date
 // The time of a second of a day.
 fn time_of(second: u32) -> civil::Time
     requires { second < 86400 }
-    ensures second { time_seconds result ≡ second }
+    ensures hour { result.hour ≡ second / 3600 }
+    ensures minute { result.minute ≡ second / 60 % 60 }
+    ensures second { result.second ≡ second % 60 }
     ensures whole { result.subsec_nanosecond ≡ 0 }
 {
     civil::Time {

@@ -1,6 +1,7 @@
 // Integers in decimal digits.
 ghost use Rattle.std.specs.Prelude.{◌≡◌, ◌==◌, ◌&&◌, not, true, false, length, IfOk, IfErr};
-ghost use Rattle.std.specs.Str.{all_ascii_digits};
+ghost use Rattle.std.specs.Char.{is_ascii_digit};
+ghost use Rattle.std.specs.List.{list_all};
 ghost use Rattle.bl_value.specs.Cells.{integer, is_integer};
 ghost use Rattle.bl_value.specs.declared.cell.CellRefusal.TheVariants.{NotOfType};
 ghost use Rattle.bl_value.specs.declared.value.Value.TheVariants.{Byte, Short, Int, Long};
@@ -70,7 +71,7 @@ fn is_integer(text: &[u8]) -> bool
 
 // One digit or more.
 fn are_digits(digits: &[u8]) -> bool
-    ensures { result ≡ (not (length digits.now == 0) && all_ascii_digits digits.now) }
+    ensures { result ≡ (not (length digits.now == 0) && list_all is_ascii_digit digits.now) }
 {
     !digits.is_empty() && digits.iter().all(|digit| digit.is_ascii_digit())
 }

@@ -1,0 +1,4 @@
+mod Days
+mod Integers
+mod Moments
+mod Utf8
