@@ -1,4 +1,6 @@
+mod Arrays
 mod Days
 mod Integers
 mod Moments
+mod Repeats
 mod Utf8

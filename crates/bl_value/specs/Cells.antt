@@ -1,5 +1,5 @@
 -- What a cell and an array cell mean (Neptune User Guide, "Gremlin load data format").
-use Rattle.std.specs.Prelude.{◌==◌, ℕ, ◌+◌, ◌-◌, ◌*◌, ◌^◌, nat_le, nat_lt, Bool, true, false, not, ◌&&◌, ◌||◌, if◌then◌else◌, codes, ℤ, pos, neg_ℤ, ◌+ℤ◌, ◌*ℤ◌, int_le, int_lt, List, [], ◌∷◌, ◌++◌, drop, filter, length, map, reverse, Ok, Err}
+use Rattle.std.specs.Prelude.{◌==◌, ℕ, ◌+◌, ◌-◌, ◌*◌, ◌^◌, nat_le, nat_lt, Bool, true, false, not, ◌&&◌, ◌||◌, if◌then◌else◌, codes, ℤ, pos, neg_ℤ, ◌+ℤ◌, ◌*ℤ◌, int_le, int_lt, List, [], ◌∷◌, ◌++◌, drop, length, reverse, Ok, Err}
 use Rattle.std.specs.declared.result.Result.{Result}
 use Rattle.std.specs.Char.{is_ascii_digit}
 use Rattle.std.specs.List.{list_all, list_any}
@@ -161,33 +161,37 @@ items_from begun (piece ∷ rest) =
 abbrev pub items : List ℕ → List (List ℕ)
 items cell = items_from [] (pieces cell)
 
--- the same value
-abbrev pub is_same : Value → Value → Bool
-is_same a b = is_eq (value_cmp a b)
+-- values in front of others, where no refusal stands in the way
+abbrev pub in_front : Result (List Value) CellRefusal → Result (List Value) CellRefusal → Result (List Value) CellRefusal
+in_front (Err refusal) others = Err refusal
+in_front (Ok values) (Err refusal) = Err refusal
+in_front (Ok values) (Ok others) = Ok (values ++ others)
+
+-- the value of a cell or an item as a list
+abbrev pub one_value : Result Value CellRefusal → Result (List Value) CellRefusal
+one_value (Err refusal) = Err refusal
+one_value (Ok value) = Ok (value ∷ [])
+
+-- the value of an item, and none where it is empty
+abbrev pub values_in : ValueType → List ℕ → Result (List Value) CellRefusal
+values_in kind item = if is_empty_cell kind item then Ok [] else one_value (cell kind item)
+
+-- the values of items, or the first refusal
+abbrev pub item_values : ValueType → List (List ℕ) → Result (List Value) CellRefusal
+item_values kind [] = Ok []
+item_values kind (item ∷ others) = in_front (values_in kind item) (item_values kind others)
 
 -- values without those that stand further left
 abbrev pub once_behind : List Value → List Value → List Value
 once_behind left [] = []
 once_behind left (value ∷ values) =
-    if list_any (λ other. is_same other value) left then once_behind left values else value ∷ once_behind (left ++ value ∷ []) values
-
--- values in front of others, where no refusal stands in the way
-abbrev pub in_front : Result Value CellRefusal → Result (List Value) CellRefusal → Result (List Value) CellRefusal
-in_front (Err refusal) others = Err refusal
-in_front (Ok value) (Err refusal) = Err refusal
-in_front (Ok value) (Ok values) = Ok (value ∷ values)
-
--- the values of cells, or the first refusal
-abbrev pub all_values : ValueType → List (List ℕ) → Result (List Value) CellRefusal
-all_values kind [] = Ok []
-all_values kind (bytes ∷ others) = in_front (cell kind bytes) (all_values kind others)
+    if list_any (λ other. is_eq (value_cmp other value)) left then once_behind left values else value ∷ once_behind (left ++ value ∷ []) values
 
 abbrev pub each_once : Result (List Value) CellRefusal → Result (List Value) CellRefusal
 each_once (Err refusal) = Err refusal
 each_once (Ok values) = Ok (once_behind [] values)
 
--- The values of a property cell, which may be an array: of its items, or of the whole. What is empty
--- has none, and repeats are dropped.
+-- The values of a property cell, each once: those of its items where it may have many, and else that
+-- of the whole cell.
 abbrev pub values_of : ValueType → Bool → List ℕ → Result (List Value) CellRefusal
-values_of kind many bytes =
-    each_once (all_values kind (filter (λ item. not (is_empty_cell kind item)) (if many then items bytes else bytes ∷ [])))
+values_of kind many bytes = each_once (if many then item_values kind (items bytes) else values_in kind bytes)

@@ -3,3 +3,4 @@ pub mod Valid
 pub mod Cells
 pub mod Dates
 pub mod Json
+pub mod ItemsLeft
