@@ -6,7 +6,6 @@ use Rattle.std.specs.Char.{digit_value, is_ascii_digit}
 use Rattle.std.specs.Str.Parse.{AllDigits, IsNumeral, signed_digits_value, without_leading_sign}
 use Rattle.std.proofs.lemmas.Bool.{eqb-true}
 use Rattle.std.proofs.lemmas.Str.{IsUtf8-from_ascii, IsUtf8-nil}
-
 use lib.Signed.{mag}
 use Rattle.bl_value.specs.Cells.{fits, integer, is_integer}
 use Rattle.bl_value.specs.declared.value.Value.{Value}

@@ -14,11 +14,11 @@ returns-in_default-clause-refusal c =
 pub returns-clause-value : goal.returns-clause-value
 returns-clause-value c =
     let whole : cell c.args.kind c.args.cell.now ≡ text_cell c.args.kind c.args.cell.now =
-        ap (λ test. if test then text_cell c.args.kind c.args.cell.now else Err NotUtf8) (is_utf8-from_IsUtf8 c.args.cell.now c.in-Ok.ensures.cases.1) in
+    ap (λ test. if test then text_cell c.args.kind c.args.cell.now else Err NotUtf8) (is_utf8-from_IsUtf8 c.args.cell.now c.in-Ok.ensures.cases.1) in
     subst (λ meaning. IfOk c.read_text.result (λ value. meaning ≡ Ok value)) (sym whole) c.read_text.ensures.value
 
 pub returns-clause-refusal : goal.returns-clause-refusal
 returns-clause-refusal c =
     let whole : cell c.args.kind c.args.cell.now ≡ text_cell c.args.kind c.args.cell.now =
-        ap (λ test. if test then text_cell c.args.kind c.args.cell.now else Err NotUtf8) (is_utf8-from_IsUtf8 c.args.cell.now c.in-Ok.ensures.cases.1) in
+    ap (λ test. if test then text_cell c.args.kind c.args.cell.now else Err NotUtf8) (is_utf8-from_IsUtf8 c.args.cell.now c.in-Ok.ensures.cases.1) in
     subst (λ meaning. IfErr c.read_text.result (λ refusal. (refusal ≡ NoMemory) ⊎ (meaning ≡ Err refusal))) (sym whole) c.read_text.ensures.refusal
