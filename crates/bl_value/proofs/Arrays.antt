@@ -1,8 +1,8 @@
 -- Values of items, put together.
-use Rattle.std.proofs.Common.{◌≡◌, ℕ, List, [], ◌∷◌, ◌++◌, Bool, true, false, cond, refl, sym, ap, ◌∙◌, append_assoc}
+use Rattle.std.proofs.Common.{◌≡◌, ℕ, List, ◌∷◌, refl, sym, ap, ◌∙◌, append_assoc}
 use Rattle.std.specs.Prelude.{Ok, Err}
 use Rattle.std.specs.declared.result.Result.{Result}
-use Rattle.bl_value.specs.Cells.{cell, each_once, in_front, is_empty_cell, item_values, one_value, values_in}
+use Rattle.bl_value.specs.Cells.{in_front, item_values, values_in}
 use Rattle.bl_value.specs.declared.cell.CellRefusal.{CellRefusal}
 use Rattle.bl_value.specs.declared.value.Value.{Value}
 use Rattle.bl_value.specs.declared.value_type.ValueType.{ValueType}
@@ -21,17 +21,3 @@ pub values_more : (kind : ValueType) (before after : List Value) (item : List �
     in_front (Ok before) (item_values kind (item ∷ others)) ≡ in_front (Ok after) (item_values kind others)
 values_more kind before after item others is =
     regroup (Ok before) (values_in kind item) (item_values kind others) ∙ ap (λ values. in_front values (item_values kind others)) is
-
--- an item's refusal is that of all
-pub refusal_more : (kind : ValueType) (before : List Value) (item : List ℕ) (others : List (List ℕ)) (refusal : CellRefusal) → values_in kind item ≡ Err refusal →
-    in_front (Ok before) (item_values kind (item ∷ others)) ≡ Err refusal
-refusal_more kind before item others refusal is = ap (λ values. in_front (Ok before) (in_front values (item_values kind others))) is
-
-one_once : (empty : Bool) (value : Result Value CellRefusal) → each_once (cond empty (Ok []) (one_value value)) ≡ cond empty (Ok []) (one_value value)
-one_once true value = refl
-one_once false (Err refusal) = refl
-one_once false (Ok value) = refl
-
--- one value has no repeat
-pub single_once : (kind : ValueType) (bytes : List ℕ) → each_once (values_in kind bytes) ≡ values_in kind bytes
-single_once kind bytes = one_once (is_empty_cell kind bytes) (cell kind bytes)

@@ -1,5 +1,5 @@
 -- Day numbers of the years 0000 to 9999, and the dates that they name.
-use Rattle.std.proofs.Common.{◌≡◌, ℕ, zero, suc, ◌+◌, ◌-◌, ◌<◌, ◌≤◌, ◌⊎◌, inl, inr, cond, Bool, true, false, refl, sym, ap, subst, ◌∙◌, ◌/◌, ◌%◌, List, [], ◌∷◌, ◌++◌, arith, ℤ, pos, negsuc, ◌-ℤ◌, ◌≤ℤ◌, ◌<ℤ◌}
+use Rattle.std.proofs.Common.{◌≡◌, ℕ, zero, suc, ◌<◌, ◌≤◌, inl, inr, cond, Bool, true, false, refl, sym, ap, subst, ◌∙◌, ◌/◌, ◌%◌, [], ◌∷◌, ◌++◌, arith, ℤ, pos, negsuc, ◌-ℤ◌, ◌≤ℤ◌, ◌<ℤ◌}
 use Rattle.std.specs.Prelude.{int_le, unsigned_abs, codes}
 use Rattle.std.proofs.lemmas.Bool.{cases_order}
 use Rattle.std.proofs.lemmas.Int.{by_lt_z, ints}
@@ -7,11 +7,11 @@ use Rattle.std.specs.Int.{int_div_euclid, int_rem_euclid}
 use Rattle.jiff.specs.Names.{iso_datetime_text}
 use Rattle.jiff_core.specs.declared.civil.date.Date.{Date}
 use Rattle.jiff_core.specs.declared.civil.time.Time.{Time}
-use Rattle.jiff_core.specs.Calendar.{day_count, days_from_civil, IsCivilDate}
+use Rattle.jiff_core.specs.Calendar.{day_count, days_from_civil}
 use Rattle.jiff_core.specs.Date.{epoch_day}
 use Rattle.jiff_core.proofs.SignedLemmas.{signed_arith, int_div_euclid-parts, unsigned_abs-parts}
 use Rattle.jiff_core.proofs.MarchLemmas.{day_count-early}
-use Rattle.jiff_core.proofs.CalendarLemmas.{days_from_civil-day_count, day_count_bounds, day_count-day_of_year, day_count-later_year, day_count-lt_year, day_count-lt_month, day_count-day}
+use Rattle.jiff_core.proofs.CalendarLemmas.{days_from_civil-day_count, day_count-day_of_year, day_count-later_year, day_count-lt_year, day_count-lt_month, day_count-day}
 use Rattle.jiff_core.proofs.DateLemmas.{civil, epoch_day_range}
 use Rattle.bl_value.specs.Dates.{IsDayNumber, year_from, month_from, year_at, month_at, day_at, date_text, day_text, time_text}
 use Rattle.bl_value.specs.Valid.{IsDate}

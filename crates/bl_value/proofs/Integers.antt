@@ -1,15 +1,14 @@
 -- Integers: what std's `parse` says, in the words of cells.
-use Rattle.std.proofs.Common.{◌≡◌, ℕ, zero, suc, ◌+◌, ◌-◌, ◌<◌, ◌≤◌, ◌^◌, ◌==◌, ◌&&◌, ◌≢◌, cond, Bool, true, false, not, List, [], ◌∷◌, length, drop, get_or, refl, sym, ap, ◌∙◌, arith, rules, ℤ, pos, negsuc, Ok, Err}
-use Rattle.std.specs.Prelude.{int_le, int_lt, IsAscii, IsUtf8, Result}
+use Rattle.std.proofs.Common.{◌≡◌, ℕ, zero, suc, ◌<◌, ◌==◌, ◌&&◌, cond, Bool, true, false, not, List, [], ◌∷◌, length, drop, refl, arith, ℤ, pos, negsuc, Err}
+use Rattle.std.specs.Prelude.{int_le, int_lt, IsAscii, IsUtf8}
 use Rattle.std.specs.List.{list_all}
-use Rattle.std.specs.Char.{digit_value, is_ascii_digit}
+use Rattle.std.specs.Char.{is_ascii_digit}
 use Rattle.std.specs.Str.Parse.{AllDigits, IsNumeral, signed_digits_value, without_leading_sign}
 use Rattle.std.proofs.lemmas.Bool.{eqb-true}
 use Rattle.std.proofs.lemmas.Str.{IsUtf8-from_ascii, IsUtf8-nil}
 use lib.Signed.{mag}
 use Rattle.bl_value.specs.Cells.{fits, integer, is_integer}
 use Rattle.bl_value.specs.declared.value.Value.{Value}
-use Rattle.bl_value.specs.declared.cell.CellRefusal.{CellRefusal}
 use Rattle.bl_value.specs.declared.cell.CellRefusal.TheVariants.{OutOfRange}
 
 -- what is true of both is true of each
@@ -35,19 +34,10 @@ pub out_of_range : (limit : ℕ) (z : ℤ) → (mag z < suc limit → ⊥) → (
 out_of_range limit (pos n) large = grind (arith, large)
 out_of_range limit (negsuc n) large = grind (arith, large)
 
--- and one that fits is within it
-pub within_range : (limit : ℕ) (z : ℤ) → mag z < suc limit → (int_le (negsuc limit) z && int_lt z (pos (suc limit))) ≡ true
-within_range limit (pos n) small = grind arith
-within_range limit (negsuc n) small = grind arith
-
--- an integer that doesn't fit is refused, and one that fits is taken
+-- an integer that doesn't fit is refused
 pub refused : (bits : ℕ) (value : ℤ → Value) (text : List ℕ) → is_integer text ≡ true → fits bits (signed_digits_value 10 text) ≡ false →
     Err OutOfRange ≡ integer bits value text
 refused bits value text is large = grind (arith, is, large)
-
-pub taken : (bits : ℕ) (value : ℤ → Value) (text : List ℕ) → is_integer text ≡ true → fits bits (signed_digits_value 10 text) ≡ true →
-    Ok (value (signed_digits_value 10 text)) ≡ integer bits value text
-taken bits value text is small = grind (arith, is, small)
 
 in_front : (byte : ℕ) (text : List ℕ) → byte < 128 → IsAscii text → IsAscii (byte ∷ text)
 in_front byte text small ascii zero = small

@@ -1,8 +1,8 @@
 -- The parts of a date's text, put together.
-use Rattle.std.proofs.Common.{◌≡◌, ℕ, ◌+◌, ◌*◌, Bool, true, List, refl, sym, ap, ◌∙◌, arith, ℤ, pos, ◌+ℤ◌, ◌*ℤ◌}
+use Rattle.std.proofs.Common.{◌≡◌, ℕ, ◌+◌, ◌*◌, Bool, true, List, sym, ap, ◌∙◌, arith, ℤ, pos, ◌+ℤ◌, ◌*ℤ◌}
 use Rattle.std.specs.Prelude.{◌&&◌, if◌then◌else◌, Ok, Err}
 use Rattle.jiff_core.specs.Calendar.{days_from_civil}
-use Rattle.bl_value.specs.Cells.{date, has_date_form, is_date, is_day, is_time, moment_of, year_of, month_of, day_of, hour_of, minute_of, second_of}
+use Rattle.bl_value.specs.Cells.{date, has_date_form, is_day, is_time, moment_of, year_of, month_of, day_of, hour_of, minute_of, second_of}
 use Rattle.bl_value.specs.declared.value.Value.TheVariants.{Date}
 use Rattle.bl_value.specs.declared.cell.CellRefusal.TheVariants.{NotOfType}
 

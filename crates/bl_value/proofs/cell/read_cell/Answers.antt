@@ -1,6 +1,5 @@
-use Rattle.std.proofs.Common.{◌≡◌, Bool, ap, sym, subst, inr, if◌then◌else◌}
+use Rattle.std.proofs.Common.{◌≡◌, ap, sym, subst, inr, if◌then◌else◌}
 use Rattle.std.specs.Prelude.{IfOk, IfErr, Ok, Err, ◌⊎◌}
-use Rattle.std.specs.Str.{is_utf8}
 use Rattle.std.proofs.lemmas.Str.{is_utf8-from_IsUtf8}
 use Rattle.bl_value.specs.Cells.{cell, text_cell}
 use Rattle.bl_value.specs.declared.cell.CellRefusal.TheVariants.{NotUtf8, NoMemory}

@@ -1,6 +1,5 @@
 use Rattle.std.proofs.Common.{◌≡◌, pos, arith}
 use Rattle.std.proofs.lemmas.Int.{ints}
-use Rattle.jiff_core.proofs.SignedLemmas.{signed_arith}
 use Rattle.bl_value.proofs.Days.{day_bounds}
 use Rattle.bl_value.proofs.date.day_number.Goals as goal
 

@@ -1,7 +1,6 @@
-use Rattle.std.proofs.Common.{◌≡◌, ◌∙◌, ◌+◌, ◌*◌, ℕ, sym, ap, arith, ℤ, pos, ◌+ℤ◌, ◌*ℤ◌}
+use Rattle.std.proofs.Common.{◌≡◌, ◌∙◌, sym, ap, arith}
 use Rattle.std.proofs.lemmas.Int.{ints}
-use Rattle.jiff_core.specs.Calendar.{days_from_civil}
-use Rattle.bl_value.specs.Cells.{is_day, is_time, two_digits, year_of, month_of, day_of, hour_of, minute_of, second_of}
+use Rattle.bl_value.specs.Cells.{two_digits, month_of, day_of, hour_of, minute_of, second_of}
 use Rattle.bl_value.proofs.Moments.{date_taken}
 use Rattle.bl_value.proofs.date.read_date.Goals as goal
 

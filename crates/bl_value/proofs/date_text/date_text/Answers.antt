@@ -1,4 +1,4 @@
-use Rattle.std.proofs.Common.{◌≡◌, ◌∙◌, ◌++◌, [], ◌∷◌, ℤ, pos, ap, rules, FitsSigned, w64, to_z-of_z}
+use Rattle.std.proofs.Common.{◌∙◌, ◌++◌, [], ◌∷◌, pos, ap, rules, FitsSigned, w64, to_z-of_z}
 use Rattle.std.specs.Prelude.{unsigned_abs}
 use Rattle.std.specs.Int.{int_div_euclid, int_rem_euclid}
 use Rattle.jiff.specs.Names.{iso_datetime_text}

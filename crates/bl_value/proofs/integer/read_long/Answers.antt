@@ -1,4 +1,3 @@
-use Rattle.std.proofs.Common.{◌≡◌, sym, subst, ap, ◌∙◌, w64}
 use Rattle.std.specs.Str.Parse.{signed_digits_value}
 use Rattle.bl_value.specs.declared.value.Value.TheVariants.{Long}
 use Rattle.bl_value.proofs.Integers.{numeral, out_of_range, refused}
