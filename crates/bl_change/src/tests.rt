@@ -153,7 +153,9 @@ fn values_print_with_their_types(rt: HostRuntime) {
         (Value::Long(9007199254740993), "Long", "9007199254740993"),
         (Value::Date(1583020740), "Date", "\"2020-02-29T23:59:00Z\""),
     ] {
-        let want = format!(in rt.alloc(); "{{\"commitTimestamp\":0,\"data\":{{\"id\":\"e1\",\"key\":\"k\",\"type\":\"ep\",\"value\":{{\"dataType\":\"{kind}\",\"value\":{json}}}}},\"eventId\":{{\"commitNum\":1,\"opNum\":1}},\"op\":\"ADD\"}}").expect(&rt, "memory");
+        let want = format!(in rt.alloc();
+            "{{\"commitTimestamp\":0,\"data\":{{\"id\":\"e1\",\"key\":\"k\",\"type\":\"ep\",\"value\":{{\"dataType\":\"{kind}\",\"value\":{json}}}}},\"eventId\":{{\"commitNum\":1,\"opNum\":1}},\"op\":\"ADD\"}}"
+        ).expect(&rt, "memory");
         let text = printed_value(rt.alloc(), value).expect(&rt, "memory");
         assert!(rt; text.as_slice() == want.as_bytes(), "{want}");
     }
