@@ -1,5 +1,6 @@
 mod Arrays
 mod Days
+mod Distinct
 mod Integers
 mod Moments
 mod Repeats

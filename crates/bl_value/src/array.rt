@@ -1,10 +1,12 @@
 // Cells that are arrays: items, divided by semicolons.
 ghost use Rattle.std.specs.Prelude.{◌≡◌, ◌+◌, ◌≤◌, ◌<◌, ◌^◌, ◌⊎◌, ◌∷◌, length, Ok, Err, IfOk, IfErr, OnOk};
-ghost use Rattle.std.specs.List.{All};
+ghost use Rattle.std.specs.List.{All, IsDistinct};
 ghost use Rattle.std.specs.Option.{option_copied};
+ghost use Rattle.std.specs.Ordering.{eq_by_cmp};
 ghost use Rattle.bl_value.specs.Cells as cells;
 ghost use Rattle.bl_value.specs.Cells.{in_front, item_values, values_in, values_of};
 ghost use Rattle.bl_value.specs.ItemsLeft.{bytes_left, items_left};
+ghost use Rattle.bl_value.specs.Order.{value_cmp};
 ghost use Rattle.bl_value.specs.Valid.{IsValue};
 ghost use Rattle.bl_value.specs.declared.cell.CellRefusal.TheVariants.{NoMemory as out_of_memory};
 
@@ -25,6 +27,7 @@ pub fn read_values(
     ensures values { IfOk result (λ values. values_of kind many cell.now ≡ Ok values) }
     ensures refusal { IfErr result
         (λ refusal. (refusal ≡ out_of_memory) ⊎ (values_of kind many cell.now ≡ Err refusal)) }
+    ensures differ { IfOk result (IsDistinct (eq_by_cmp value_cmp)) }
     ensures valid { IfOk result (All IsValue) }
 {
     if many {

@@ -1,7 +1,7 @@
 // Values without repeats.
 ghost use Rattle.std.specs.Prelude.{◌≡◌, [], IfOk};
-ghost use Rattle.std.specs.List.{All, list_any};
-ghost use Rattle.std.specs.Ordering.{is_eq};
+ghost use Rattle.std.specs.List.{All, IsDistinct, list_any};
+ghost use Rattle.std.specs.Ordering.{eq_by_cmp, is_eq};
 ghost use Rattle.bl_value.specs.Cells.{once_behind};
 ghost use Rattle.bl_value.specs.Order.{value_cmp};
 ghost use Rattle.bl_value.specs.Valid.{IsValue};
@@ -18,6 +18,7 @@ const FEW: usize = 16;
 pub(crate) fn each_once(alloc: Global, values: List<Value>) -> Result<List<Value>, NoMemory>
     requires { All IsValue values }
     ensures once { IfOk result (λ once. once ≡ once_behind [] values) }
+    ensures differ { IfOk result (IsDistinct (eq_by_cmp value_cmp)) }
     ensures valid { IfOk result (All IsValue) }
 {
     if values.len() <= FEW {
