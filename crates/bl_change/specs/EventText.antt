@@ -3,7 +3,7 @@
 use Rattle.std.specs.Prelude.{ℕ, Bool, true, false, codes, List}
 use Rattle.serde_json.specs.Data.{Data, boolean, number, unsigned, string, object, Members, no_members, member}
 use Rattle.serde_json.specs.Written.{compact_text}
-use Rattle.bl_value.specs.Json.{IsText, value_data}
+use Rattle.bl_value.specs.Json.{value_data}
 use Rattle.bl_value.specs.declared.value.Value.{Value}
 use Rattle.bl_value.specs.declared.value.Value.TheVariants.{Bool as a_bool, Byte, Short, Int, Long, Str, Date}
 use Rattle.bl_value.specs.declared.column.Side.{Side}
@@ -74,10 +74,3 @@ event_data event =
 
 abbrev pub event_text : Event → List ℕ
 event_text event = compact_text (event_data event)
-
--- The value that a change has is a text, the one kind that is printed so far.
-abbrev pub HasTextValue : Change → Type 0
-HasTextValue (AddLabel id label) = Unit {0}
-HasTextValue (AddEdge id label from to) = Unit {0}
-HasTextValue (AddValue side id key value) = IsText value
-HasTextValue (RemoveValue side id key value) = IsText value

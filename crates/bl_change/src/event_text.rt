@@ -4,9 +4,8 @@ ghost use Rattle.std.specs.Str.{IsUtf8};
 ghost use Rattle.serde_json.specs.Data.{string, put as with_member};
 ghost use Rattle.serde_json.specs.View.{view, members_view};
 ghost use Rattle.bl_value.specs.declared.value.Value.TheVariants.{Str};
-ghost use Rattle.bl_value.specs.Json.{IsText};
 ghost use Rattle.bl_value.specs.Valid.{IsPrintable, IsPrintableValue};
-ghost use Rattle.bl_change.specs.EventText.{HasTextValue, data_type, typed_data, property_type, element_data, edge_data, change_data, op_name, place_data, record_data, event_data, event_text};
+ghost use Rattle.bl_change.specs.EventText.{data_type, typed_data, property_type, element_data, edge_data, change_data, op_name, place_data, record_data, event_data, event_text};
 
 use crate::Event;
 use bl_outside::{NoMemory, Text};
@@ -14,10 +13,9 @@ use bl_value::{Change, Side, Value, json_of};
 use serde_json::{Map, Value as Json, json, put};
 use std::alloc::Global;
 
-/// The text of an event, without a line end. Changes whose value is a text are printed so far.
+/// The text of an event, without a line end.
 pub fn print_event(alloc: Global, event: &Event) -> Result<Text, NoMemory>
     requires printable { IsPrintable event.now.change }
-    requires text { HasTextValue event.now.change }
     ensures { IfOk result (λ text. text ≡ event_text event.now) }
 {
     let json = event_json(alloc, event)?;
@@ -26,7 +24,6 @@ pub fn print_event(alloc: Global, event: &Event) -> Result<Text, NoMemory>
 
 fn event_json(alloc: Global, event: &Event) -> Result<Json, NoMemory>
     requires printable { IsPrintable event.now.change }
-    requires text { HasTextValue event.now.change }
     ensures { IfOk result (λ json. view json ≡ event_data event.now) }
 {
     let data = change_json(alloc, &event.change)?;
@@ -75,7 +72,6 @@ fn operation(change: &Change) -> &str
 
 fn change_json(alloc: Global, change: &Change) -> Result<Json, NoMemory>
     requires printable { IsPrintable change.now }
-    requires text { HasTextValue change.now }
     ensures { IfOk result (λ json. view json ≡ change_data change.now) }
 {
     match change {
@@ -117,7 +113,6 @@ fn property_json(
     requires id { IsUtf8 id.now }
     requires key { IsUtf8 key.now }
     requires printable { IsPrintableValue value.now }
-    requires text { IsText value.now }
     ensures { IfOk result (λ json. view json
         ≡ element_data (property_type side) id.now key.now (typed_data value.now)) }
 {
@@ -181,7 +176,6 @@ fn label_json(alloc: Global, label: &str) -> Result<Json, NoMemory>
 
 fn value_json(alloc: Global, value: &Value) -> Result<Json, NoMemory>
     requires printable { IsPrintableValue value.now }
-    requires text { IsText value.now }
     ensures { IfOk result (λ json. view json ≡ typed_data value.now) }
 {
     let data = json_of(alloc, value)?;

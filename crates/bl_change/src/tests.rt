@@ -1,7 +1,6 @@
 // Printed records, letter by letter.
 ghost use Rattle.std.specs.Prelude.{IfOk};
-ghost use Rattle.bl_value.specs.Valid.{IsId, IsKey, IsChange};
-ghost use Rattle.bl_change.specs.EventText.{HasTextValue};
+ghost use Rattle.bl_value.specs.Valid.{IsId, IsKey, IsChange, IsPrintableValue};
 
 use crate::{Event, print_event};
 use bl_outside::{NoMemory, Text};
@@ -28,8 +27,7 @@ fn word(alloc: Global, text: &str) -> Result<Text, NoMemory>
 }
 
 fn change(alloc: Global, kind: Kind, words: [&str; 4]) -> Result<Change, NoMemory>
-    ensures valid { IfOk result IsChange }
-    ensures text { IfOk result HasTextValue }
+    ensures { IfOk result IsChange }
 {
     let id = word(alloc, words[0])?;
     let label = word(alloc, words[1])?;
@@ -111,6 +109,54 @@ fn events_print_as_the_records_of_the_guide(rt: HostRuntime) {
         ),
     ] {
         let text = printed(rt.alloc(), kind, words, numbers).expect(&rt, "memory");
+        assert!(rt; text.as_slice() == want.as_bytes(), "{want}");
+    }
+}
+
+// A value that is no text, and a date only in the years 0000 to 9999.
+fn without_text(value: Value) -> Result<Value, NoMemory>
+    ensures { IfOk result IsPrintableValue }
+{
+    match value {
+        Value::Str(_) => Err(NoMemory),
+        Value::Date(seconds) if !(-62167219200..=253402300799).contains(&seconds) => Err(NoMemory),
+        value => Ok(value),
+    }
+}
+
+fn printed_value(alloc: Global, value: Value) -> Result<Text, NoMemory> {
+    let value = without_text(value)?;
+    let id = word(alloc, "e1")?;
+    let key = word(alloc, "k")?;
+    let event = Event {
+        commit: 1,
+        op: 1,
+        moment: 0,
+        last: false,
+        change: Change::AddValue {
+            side: Side::Edge,
+            id,
+            key,
+            value,
+        },
+    };
+    print_event(alloc, &event)
+}
+
+#[test]
+fn values_print_with_their_types(rt: HostRuntime) {
+    for (value, kind, json) in [
+        (Value::Bool(true), "Boolean", "true"),
+        (Value::Byte(-128), "Byte", "-128"),
+        (Value::Short(300), "Short", "300"),
+        (Value::Int(-70000), "Int", "-70000"),
+        (Value::Long(9007199254740993), "Long", "9007199254740993"),
+        (Value::Date(1583020740), "Date", "\"2020-02-29T23:59:00Z\""),
+    ] {
+        let want = format!(in rt.alloc();
+            "{{\"commitTimestamp\":0,\"data\":{{\"id\":\"e1\",\"key\":\"k\",\"type\":\"ep\",\"value\":{{\"dataType\":\"{kind}\",\"value\":{json}}}}},\"eventId\":{{\"commitNum\":1,\"opNum\":1}},\"op\":\"ADD\"}}"
+        ).expect(&rt, "memory");
+        let text = printed_value(rt.alloc(), value).expect(&rt, "memory");
         assert!(rt; text.as_slice() == want.as_bytes(), "{want}");
     }
 }

@@ -1,4 +1,6 @@
 pub mod Order
 pub mod Valid
 pub mod Cells
+pub mod Dates
 pub mod Json
+pub mod ItemsLeft

@@ -1,8 +1,13 @@
 // Cells of a file.
-ghost use Rattle.std.specs.Prelude.{◌≡◌, reverse};
-ghost use Rattle.bl_value.specs.Cells.{ReadsText, without_spaces, without_spaces_in_front};
-ghost use Rattle.bl_value.specs.declared.cell.CellRefusal.TheVariants.{NoMemory as out_of_memory};
+ghost use Rattle.std.specs.Prelude.{◌≡◌, ◌⊎◌, ◌<◌, ◌^◌, false, length, reverse, Ok, Err, IfOk, IfErr};
+ghost use Rattle.std.specs.Str.{IsUtf8};
+ghost use Rattle.bl_value.specs.Cells as cells;
+ghost use Rattle.bl_value.specs.Cells.{is_true, text_cell, without_spaces, without_spaces_in_front};
+ghost use Rattle.bl_value.specs.Valid.{IsValue};
+ghost use Rattle.bl_value.specs.declared.cell.CellRefusal.TheVariants.{NotUtf8, NoMemory as out_of_memory};
 
+use crate::date::read_date;
+use crate::integer::{read_byte, read_int, read_long, read_short};
 use crate::{Value, ValueType};
 use bl_outside::{NoMemory, Text};
 use std::alloc::Global;
@@ -24,25 +29,55 @@ impl From<NoMemory> for CellRefusal {
     }
 }
 
-/// The value of a cell that isn't empty. Text cells are read so far.
+/// The value of a cell that isn't empty.
 pub fn read_cell(alloc: Global, kind: ValueType, cell: &[u8]) -> Result<Value, CellRefusal>
-    requires { kind ≡ ValueType.Str }
-    ensures { ReadsText cell.now result }
+    requires short { length cell.now < 2 ^ 32 }
+    requires some { cells.is_empty_cell kind cell.now ≡ false }
+    ensures value { IfOk result (λ value. cells.cell kind cell.now ≡ Ok value) }
+    ensures refusal { IfErr result
+        (λ refusal. (refusal ≡ out_of_memory) ⊎ (cells.cell kind cell.now ≡ Err refusal)) }
+    ensures valid { IfOk result IsValue }
+{
+    let Ok(_) = str::from_utf8(cell) else {
+        return Err(CellRefusal::NotUtf8);
+    };
+    read_text(alloc, kind, cell)
+}
+
+// The value of a cell in UTF-8.
+fn read_text(alloc: Global, kind: ValueType, cell: &[u8]) -> Result<Value, CellRefusal>
+    requires short { length cell.now < 2 ^ 32 }
+    requires utf8 { IsUtf8 cell.now }
+    ensures value { IfOk result (λ value. text_cell kind cell.now ≡ Ok value) }
+    ensures refusal { IfErr result
+        (λ refusal. (refusal ≡ out_of_memory) ⊎ (text_cell kind cell.now ≡ Err refusal)) }
+    ensures valid { IfOk result IsValue }
 {
     match kind {
-        ValueType::Str => read_text(alloc, cell),
-        _ => unreachable!(),
+        ValueType::Bool => Ok(Value::Bool(is_true(without_spaces(cell)))),
+        ValueType::Byte => read_byte(without_spaces(cell)),
+        ValueType::Short => read_short(without_spaces(cell)),
+        ValueType::Int => read_int(without_spaces(cell)),
+        ValueType::Long => read_long(without_spaces(cell)),
+        ValueType::Str => Ok(Value::Str(Text::copy_of(alloc, cell)?)),
+        ValueType::Date => read_date(without_spaces(cell)),
     }
 }
 
-// The bytes as they stand.
-fn read_text(alloc: Global, cell: &[u8]) -> Result<Value, CellRefusal>
-    ensures { ReadsText cell.now result }
+fn is_true(text: &[u8]) -> bool
+    ensures { result ≡ is_true text.now }
 {
-    if str::from_utf8(cell).is_err() {
-        return Err(CellRefusal::NotUtf8);
+    text.eq_ignore_ascii_case(b"true")
+}
+
+/// An empty cell has no value. Of another type than text, neither has one of spaces alone.
+pub fn is_empty_cell(kind: ValueType, cell: &[u8]) -> bool
+    ensures { result ≡ cells.is_empty_cell kind cell.now }
+{
+    match kind {
+        ValueType::Str => cell.is_empty(),
+        _ => without_spaces(cell).is_empty(),
     }
-    Ok(Value::Str(Text::copy_of(alloc, cell)?))
 }
 
 /// A cell without the ASCII spaces at both its ends.

@@ -1,25 +1,32 @@
 //! The words of the subject: values, columns, rows and changes.
 //!
-//! A column of a CSV file has a [`ValueType`]; a cell of it is read to a [`Value`] by [`read_cell`].
+//! A column of a CSV file has a [`ValueType`]; a cell of it is read to a [`Value`] by [`read_cell`],
+//! and one that may be an array to values by [`read_values`].
 //! A record becomes a [`Row`], and what a row does to the graph is a list of [`Change`]s. Values are
 //! ordered by [`compare`], and [`json_value`] is how a value stands in a change record.
 //!
 //! Words of the contracts: `specs/Order` (the order of values), `specs/Cells` (what a cell and an
-//! array cell mean), `specs/Json` (the JSON of a value), `specs/Valid` (what a valid thing is).
-//! Texts are read and printed so far; the other types are there, and their cells come later.
+//! array cell mean), `specs/Dates` and `specs/Json` (the text and the JSON of a value), `specs/Valid`
+//! (what a valid thing is).
 //! This crate stands on `bl_outside`.
 #![tactic(auto)]
 
+mod array;
 mod cell;
 mod change;
 mod column;
+mod date;
+mod date_text;
+mod integer;
 mod json_text;
 mod log_code;
+mod once;
 mod row;
 mod value;
 mod value_type;
 
-pub use cell::{CellRefusal, read_cell, without_spaces};
+pub use array::{items, read_values};
+pub use cell::{CellRefusal, is_empty_cell, read_cell, without_spaces};
 pub use change::{Change, copy_changes};
 pub use column::{Column, ColumnUse, Columns, Side};
 pub use json_text::{json_of, json_value};

@@ -1,0 +1,7 @@
+mod Arrays
+mod Days
+mod Distinct
+mod Integers
+mod Moments
+mod Repeats
+mod Utf8
