@@ -2,7 +2,7 @@
 use Rattle.std.specs.Prelude.{◌≡◌, ℕ, Bool, List, None, Some}
 use Rattle.std.specs.declared.option.Option.{Option}
 use Rattle.std.specs.Option.{IfSome, MatchOption}
-use Rattle.std.proofs.Common.{sym, subst, inl}
+use Rattle.std.proofs.Common.{subst, inl}
 use Rattle.bl_outside.specs.Folders.{Files}
 use Rattle.bl_graph.specs.Graph.{empty}
 use Rattle.bl_graph.specs.Replay.{after}
@@ -10,7 +10,7 @@ use Rattle.bl_cli.specs.declared.loading.Loaded.{Loaded}
 use Rattle.bl_cli.specs.declared.words.Asked.{Asked}
 use Rattle.bl_cli.specs.declared.status.Status.{Status}
 use Rattle.bl_cli.specs.declared.status.Status.TheVariants.{Ok, WriteFault, NotBuilt}
-use Rattle.bl_cli.specs.Loads.{file_load}
+use Rattle.bl_cli.specs.Loads.{IsFileLoad, IsThe}
 use Rattle.bl_cli.specs.Outputs.{load_output}
 use Rattle.bl_cli.specs.Runs.{Adds, LeavesFront, LoadPrints, OfFiles, Prints}
 
@@ -19,26 +19,22 @@ abbrev pub Ends : Option Loaded → Bool → ℕ → ℕ → Option (List ℕ) �
 Ends found changes salt moment old new status =
     MatchOption found ((status ≡ NotBuilt) × (new ≡ old)) (λ load. Prints Ok (load_output salt moment changes load) old new status)
 
-found_at : (files : Option Files) (path : List ℕ) (loaded : Loaded) → OfFiles files (λ told. Some loaded ≡ file_load told path) → OfFiles files (λ told. file_load told path ≡ Some loaded)
-found_at None path loaded is = tt
-found_at (Some files) path loaded is = sym is
-
 pub ends_well : (files : Option Files) (command : Asked) (salt moment : ℕ) (old new : Option (List ℕ)) (found : Option Loaded) (status : Status) →
-    OfFiles files (λ told. found ≡ file_load told command.path) → IfSome found (λ load. after empty load.changes ≡ load.graph) →
+    OfFiles files (λ told. IsThe (IsFileLoad told command.path) found) → IfSome found (λ load. after empty load.changes ≡ load.graph) →
     Ends found command.changes salt moment old new status → status ≡ Ok → LoadPrints Adds files command salt moment old new
 ends_well files command salt moment old new None status is replays ends ok = absurd (cc (ends.0, ok))
 ends_well files command salt moment old new (Some loaded) status is replays ends ok = record {
   loaded = loaded;
-  load = record { loads = found_at files command.path loaded is; replays = replays };
+  load = record { loads = is; replays = replays };
   prints = (subst (Prints Ok (load_output salt moment command.changes loaded) old new) ok ends).1;
 }
 
 pub ends_in_front : (files : Option Files) (command : Asked) (salt moment : ℕ) (old new : Option (List ℕ)) (found : Option Loaded) (status : Status) →
-    OfFiles files (λ told. found ≡ file_load told command.path) → IfSome found (λ load. after empty load.changes ≡ load.graph) →
+    OfFiles files (λ told. IsThe (IsFileLoad told command.path) found) → IfSome found (λ load. after empty load.changes ≡ load.graph) →
     Ends found command.changes salt moment old new status → status ≡ WriteFault → LeavesFront files command salt moment old new
 ends_in_front files command salt moment old new None status is replays ends fault = absurd (cc (ends.0, fault))
 ends_in_front files command salt moment old new (Some loaded) status is replays ends fault = inl (record {
   loaded = loaded;
-  load = record { loads = found_at files command.path loaded is; replays = replays };
+  load = record { loads = is; replays = replays };
   prints = subst (Prints Ok (load_output salt moment command.changes loaded) old new) fault ends;
 })

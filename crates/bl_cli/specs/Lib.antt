@@ -1,14 +1,9 @@
-pub mod Sources
 pub mod Words
 pub mod LoadIds
-pub mod File
-pub mod Contents
-pub mod RecordReaders
-pub mod Headers
-pub mod Rows
-pub mod Printable
+pub mod Batches
 pub mod Loads
-pub mod TakenRows
+pub mod Printable
+pub mod Taking
 pub mod Outputs
 pub mod Statuses
 pub mod Runs

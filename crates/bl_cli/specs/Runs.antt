@@ -11,7 +11,7 @@ use Rattle.bl_cli.specs.declared.status.Status.TheVariants.{Ok, JobNotCompleted,
 use Rattle.bl_outside.specs.Counts.{Rose}
 use Rattle.bl_cli.specs.Statuses.{line_of}
 use Rattle.bl_cli.specs.Words.{asked}
-use Rattle.bl_cli.specs.Loads.{file_load}
+use Rattle.bl_cli.specs.Loads.{IsFileLoad}
 use Rattle.bl_cli.specs.Outputs.{failed_line, load_output}
 
 -- a fact of what was written before and after, where it is told
@@ -44,7 +44,7 @@ Prints done text old new NotBuilt = ⊥
 
 -- The file at the path is loaded so far, and this is its load. Its changes, replayed from the empty graph, give its graph.
 pub record IsLoad (files : Option Files) (path : List ℕ) (loaded : Loaded) : Type 0 where
-  pub loads : OfFiles files (λ told. file_load told path ≡ Some loaded)
+  pub loads : OfFiles files (λ told. IsFileLoad told path loaded)
   pub replays : after empty loaded.changes ≡ loaded.graph
 
 -- The command's file is loaded so far, and its load's whole output, or a front of it, was added.
@@ -59,7 +59,7 @@ LeavesFront files command salt moment old new = LoadPrints AddsFront files comma
 
 -- The command's file isn't loaded so far.
 abbrev pub IsNotBuilt : Option Files → Asked → Type 0
-IsNotBuilt files command = OfFiles files (λ told. file_load told command.path ≡ None)
+IsNotBuilt files command = OfFiles files (λ told. (loaded : Loaded) → ¬ (IsFileLoad told command.path loaded))
 
 -- a fact of what the words ask for
 abbrev pub OfCommand : List (List ℕ) → (Asked → Type 0) → Type 0
@@ -90,12 +90,16 @@ pub record IsQuiet (folder folder' out out' err err' : ℕ) : Type 0 where
   pub err_quiet : ¬ (Rose err err')
 
 -- The answer to a load of a file that is told: Ok exactly where it is loaded so far, else NotBuilt.
-abbrev pub IsFileAnswer : Option Loaded → Status → Type 0
-IsFileAnswer (Some loaded) status = (status ≡ Ok) ⊎ (status ≡ NoMemory)
-IsFileAnswer None status = (status ≡ NotBuilt) ⊎ (status ≡ NoMemory)
+abbrev pub IsFileAnswer : Files → List ℕ → Status → Type 0
+IsFileAnswer files path Ok = (loaded : Loaded) × IsFileLoad files path loaded
+IsFileAnswer files path NotBuilt = (loaded : Loaded) → ¬ (IsFileLoad files path loaded)
+IsFileAnswer files path NoMemory = Unit {0}
+IsFileAnswer files path JobNotCompleted = ⊥
+IsFileAnswer files path Usage = ⊥
+IsFileAnswer files path WriteFault = ⊥
 
 -- The answer to what is asked, where no count rose: Usage exactly where nothing is. Want of memory may stand for each.
 abbrev pub IsAnswer : Option Files → Option Asked → Status → Type 0
 IsAnswer files None status = (status ≡ Usage) ⊎ (status ≡ NoMemory)
 IsAnswer None (Some command) status = ¬ (status ≡ Usage)
-IsAnswer (Some files) (Some command) status = IsFileAnswer (file_load files command.path) status
+IsAnswer (Some files) (Some command) status = IsFileAnswer files command.path status

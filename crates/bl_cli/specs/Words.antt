@@ -4,7 +4,7 @@ use Rattle.std.specs.declared.option.Option.{Option}
 use Rattle.std.specs.Option.{option_map}
 use Rattle.std.specs.Cmp.Lexicographic.{pointwise}
 use Rattle.bl_cli.specs.declared.words.Asked.{Asked}
-use Rattle.bl_cli.specs.Sources.{path_of}
+use Rattle.bl_files.specs.Sources.{path_of}
 
 abbrev pub is_word : List ℕ → List ℕ → Bool
 is_word word text = pointwise nat_eq word text

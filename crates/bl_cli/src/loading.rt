@@ -1,22 +1,25 @@
-// A load: the rows of a file, admitted into an empty graph one after another.
-ghost use Rattle.std.specs.Prelude.{◌≡◌, ◌≤◌, ◌+◌, ◌++◌, ◌<◌, ◌^◌, length, option_map, IfOk, IfSome, OnOk};
+// A load: the records of a file, admitted into an empty graph one after another.
+ghost use Rattle.std.specs.Prelude.{◌≡◌, ◌≤◌, ◌++◌, ◌<◌, ◌^◌, true, List as Items, ℕ, length, IfOk, IfSome, OnOk};
 ghost use Rattle.std.specs.List.{All};
+ghost use Rattle.bl_value.specs.Valid.{IsPrintable};
 ghost use Rattle.bl_graph.specs.Graph.{empty as empty_graph};
 ghost use Rattle.bl_graph.specs.Replay.{after};
-ghost use Rattle.bl_cli.specs.Printable.{IsTextChange, IsTextColumn, IsTextRow};
-ghost use Rattle.bl_cli.specs.Loads.{bytes_load, file_rows, is_compressed, load_of, plain_rows, rows_behind, with_row, with_verdict};
-ghost use Rattle.bl_cli.specs.TakenRows.{TakesRecord};
+ghost use Rattle.bl_value.specs.ValidColumns.{IsColumns};
+ghost use Rattle.bl_rows.specs.Contents.{Fields, contents};
+ghost use Rattle.bl_rows.specs.File.{IsSmall};
+ghost use Rattle.bl_rows.specs.RowReaders.{Stands};
+ghost use Rattle.bl_value.specs.ValidRows.{IsRow};
+ghost use Rattle.bl_cli.specs.Printable.{IsSetRow};
+ghost use Rattle.bl_cli.specs.Loads.{IsContentLoad, IsThe, are_sets, is_compressed, records_load};
+ghost use Rattle.bl_cli.specs.Taking.{IsWhole, TakesRecord, TakesRow};
 
-use crate::header::plain_columns;
-use crate::records::all_records;
-use crate::rows::plain_row;
+use crate::batch::Batch;
+use crate::columns::set_columns;
 use bl_graph::{Graph, Verdict};
 use bl_outside::{List, NoMemory, Text};
-use bl_value::{Change, ColumnUse, Row};
+use bl_rows::{FileBytes, RowReader, convert, start};
+use bl_value::{Change, Columns, Row};
 use std::alloc::Global;
-
-/// The largest number of records behind the header.
-const RECORDS: usize = 1_000;
 
 /// What a load has made so far.
 #[derive(Drop)]
@@ -64,121 +67,103 @@ fn append(all: &mut List<Change>, changes: List<Change>) -> Result<(), NoMemory>
     Ok(())
 }
 
-// Takes what a verdict says into the load. A refused row changes nothing; none is refused while all
-// properties are sets.
-fn take_verdict(loaded: &mut Loaded, verdict: Verdict) -> Result<(), NoMemory>
-    requires few { loaded.old.duplicates < 2 ^ 32 }
-    requires records { loaded.old.records < 2 ^ 32 }
-    ensures { OnOk result (loaded.new ≡ with_verdict loaded.old verdict) }
-{
-    loaded.records += 1;
-    match verdict {
-        Verdict::Changes(changes) => {
-            apply_all(&mut loaded.graph, &changes)?;
-            append(&mut loaded.changes, changes)
+/// A load, and how much of its batch is taken.
+#[derive(Drop)]
+pub struct Taken {
+    pub loaded: Loaded,
+    pub batch: Batch,
+}
+
+impl Taken {
+    ghost use Rattle.bl_cli.specs.Loads.{nothing_taken};
+
+    fn nothing(alloc: Global) -> Taken
+        ensures { result ≡ nothing_taken }
+    {
+        Taken {
+            loaded: Loaded::nothing(alloc),
+            batch: Batch::nothing_yet(),
         }
-        Verdict::Duplicate => {
-            loaded.duplicates += 1;
-            Ok(())
-        }
-        Verdict::Refused(..) => Ok(()),
     }
 }
 
-fn take_row(loaded: &mut Loaded, row: &Row) -> Result<(), NoMemory>
-    requires few { loaded.old.duplicates < 2 ^ 32 }
+// Takes a row into the load. False where it is refused, and then nothing is taken.
+fn take_row(loaded: &mut Loaded, row: &Row) -> Result<bool, NoMemory>
     requires records { loaded.old.records < 2 ^ 32 }
-    requires text { IsTextRow row.now }
-    ensures { OnOk result (loaded.new ≡ with_row loaded.old row.now) }
+    requires duplicates { loaded.old.duplicates < 2 ^ 32 }
+    ensures { IfOk result (TakesRow loaded.old row.now loaded.new) }
 {
-    let verdict = loaded.graph.admit(false, row)?;
-    take_verdict(loaded, verdict)
-}
-
-// Takes a record into the load. False where it isn't plain, and then nothing is taken.
-fn take_record(
-    alloc: Global,
-    uses: &[ColumnUse],
-    loaded: &mut Loaded,
-    fields: &[Text],
-) -> Result<bool, NoMemory>
-    requires columns { length uses.now ≤ 1024 }
-    requires texts { All IsTextColumn uses.now }
-    requires few { loaded.old.duplicates < 2 ^ 32 }
-    requires records { loaded.old.records < 2 ^ 32 }
-    ensures { IfOk result (TakesRecord uses.now fields.now loaded.old loaded.new) }
-{
-    let Some(row) = plain_row(alloc, uses, fields)? else {
-        return Ok(false);
-    };
-    take_row(loaded, &row)?;
+    match loaded.graph.admit(false, row)? {
+        Verdict::Changes(changes) => {
+            apply_all(&mut loaded.graph, &changes)?;
+            append(&mut loaded.changes, changes)?;
+        }
+        Verdict::Duplicate => loaded.duplicates += 1,
+        Verdict::Refused(..) => return Ok(false),
+    }
+    loaded.records += 1;
     Ok(true)
 }
 
-// The load of the records. None where one of them isn't plain.
+// Takes a record into the load. False where the batch is full before it, or its row is refused.
+fn take_record(
+    alloc: Global,
+    columns: &Columns,
+    taken: &mut Taken,
+    fields: &List<Text>,
+) -> Result<bool, NoMemory>
+    requires columns { IsColumns columns.now }
+    requires sets { are_sets columns.now ≡ true }
+    requires whole { IsWhole taken.old }
+    ensures { IfOk result (TakesRecord columns.now fields.now taken.old taken.new) }
+{
+    if taken.batch.is_full() {
+        return Ok(false);
+    }
+    let row = convert(alloc, columns, fields)?;
+    if !take_row(&mut taken.loaded, &row)? {
+        return Ok(false);
+    }
+    taken.batch = taken.batch.with_record(&row, fields.as_slice());
+    Ok(true)
+}
+
+// The load of the records that are left. None where they pass a batch, or a row is refused.
 fn load_records(
     alloc: Global,
-    uses: &[ColumnUse],
-    records: &[List<Text>],
+    columns: &Columns,
+    reader: &mut RowReader,
 ) -> Result<Option<Loaded>, NoMemory>
-    requires columns { length uses.now ≤ 1024 }
-    requires texts { All IsTextColumn uses.now }
-    requires records { length records.now ≤ 1000 }
-    ensures load { IfOk result (λ loaded. loaded ≡ option_map load_of (plain_rows uses.now records.now)) }
-    ensures texts { IfOk result (λ loaded. IfSome loaded (λ load. All IsTextChange load.changes)) }
+    requires columns { IsColumns columns.now }
+    requires sets { are_sets columns.now ≡ true }
+    ensures load { (all : Items Fields) (taken : ℕ) (left : Items Fields) → Stands reader.old all taken left → IfOk result (λ loaded. loaded ≡ records_load columns.now left) }
+    ensures printable { IfOk result (λ loaded. IfSome loaded (λ load. All IsPrintable load.changes)) }
     ensures replays { IfOk result (λ loaded. IfSome loaded (λ load. after empty_graph load.changes ≡ load.graph)) }
 {
-    let mut loaded = Loaded::nothing(alloc);
-    for fields in records {
-        if !take_record(alloc, uses, &mut loaded, fields.as_slice())? {
+    let mut taken = Taken::nothing(alloc);
+    while let Some(fields) = reader.next()? {
+        if !take_record(alloc, columns, &mut taken, &fields)? {
             return Ok(None);
         }
     }
-    Ok(Some(loaded))
+    Ok(Some(taken.loaded))
 }
 
-// The load of a header and the records behind it.
-fn load_plain(
-    alloc: Global,
-    header: &List<Text>,
-    records: &[List<Text>],
-) -> Result<Option<Loaded>, NoMemory>
-    ensures load { IfOk result (λ loaded. loaded ≡ option_map load_of (rows_behind header.now records.now)) }
-    ensures texts { IfOk result (λ loaded. IfSome loaded (λ load. All IsTextChange load.changes)) }
+/// The load of a file. None where it isn't one that is loaded so far.
+pub fn load_bytes(alloc: Global, file: FileBytes) -> Result<Option<Loaded>, NoMemory>
+    requires { IsSmall file.bytes }
+    ensures load { IfOk result (IsThe (IsContentLoad (contents file.bytes))) }
+    ensures printable { IfOk result (λ loaded. IfSome loaded (λ load. All IsPrintable load.changes)) }
     ensures replays { IfOk result (λ loaded. IfSome loaded (λ load. after empty_graph load.changes ≡ load.graph)) }
 {
-    if records.len() > RECORDS {
-        return Ok(None);
+    let mut reader = start(alloc, file)?;
+    if reader.is_empty() {
+        return Ok(Some(Loaded::nothing(alloc)));
     }
-    let Some(uses) = plain_columns(alloc, header)? else {
+    let Some(columns) = set_columns(alloc, reader.header())? else {
         return Ok(None);
     };
-    load_records(alloc, uses.as_slice(), records)
-}
-
-fn load_rows(alloc: Global, rows: &[List<Text>]) -> Result<Option<Loaded>, NoMemory>
-    ensures load { IfOk result (λ loaded. loaded ≡ option_map load_of (file_rows rows.now)) }
-    ensures texts { IfOk result (λ loaded. IfSome loaded (λ load. All IsTextChange load.changes)) }
-    ensures replays { IfOk result (λ loaded. IfSome loaded (λ load. after empty_graph load.changes ≡ load.graph)) }
-{
-    match rows.split_first() {
-        Some((header, records)) => load_plain(alloc, header, records),
-        None => Ok(None),
-    }
-}
-
-/// The load of a file of at most 16,384 bytes. None where it isn't one that is loaded so far.
-pub fn load_bytes(alloc: Global, bytes: Text) -> Result<Option<Loaded>, NoMemory>
-    requires { length bytes ≤ 16384 }
-    ensures load { IfOk result (λ loaded. loaded ≡ bytes_load bytes) }
-    ensures texts { IfOk result (λ loaded. IfSome loaded (λ load. All IsTextChange load.changes)) }
-    ensures replays { IfOk result (λ loaded. IfSome loaded (λ load. after empty_graph load.changes ≡ load.graph)) }
-{
-    if bytes.as_slice().starts_with(b"\xef\xbb\xbf") {
-        return Ok(None);
-    }
-    let rows = all_records(alloc, bytes)?;
-    load_rows(alloc, rows.as_slice())
+    load_records(alloc, &columns, &mut reader)
 }
 
 /// The name says that the file is compressed.

@@ -5,24 +5,18 @@
 //! change. [`run`] does this over whatever outside it is handed, and its contract says what each
 //! answer means; `main` hands in the real folder, disks and streams.
 //!
-//! Words of the contracts: `specs/Words` and `specs/Sources` (the command line), `specs/Contents`,
-//! `specs/Headers` and `specs/Rows` (a file), `specs/Loads` (a load), `specs/Outputs` (what is
-//! printed), `specs/Runs` (how a run ends).
+//! Words of the contracts: `specs/Words` (the command line), `specs/Batches` and `specs/Loads` (a
+//! load), `specs/Outputs` (what is printed), `specs/Runs` (how a run ends). What a file, its header
+//! and its records mean is said in `bl_rows` and `bl_header`.
 #![tactic(auto)]
 
-mod bytes;
-mod file;
-#[cfg(test)]
-mod file_tests;
-mod header;
+mod batch;
+mod columns;
 mod load_id;
 mod loading;
 mod outputs;
-mod records;
-mod rows;
 #[cfg(test)]
 mod run_tests;
-mod source;
 mod status;
 mod top;
 mod words;

@@ -2,7 +2,7 @@
 ghost use Rattle.std.specs.Prelude.{◌≡◌, ◌++◌, IfOk, OnOk};
 ghost use Rattle.std.specs.List.{All, flat_map};
 ghost use Rattle.bl_cli.specs.Outputs.{change_lines, event_line, failed_line, job_line, load_output, number_behind};
-ghost use Rattle.bl_cli.specs.Printable.{IsTextChange};
+ghost use Rattle.bl_value.specs.Valid.{IsPrintable};
 
 use crate::load_id::load_id_text;
 use crate::loading::Loaded;
@@ -62,7 +62,7 @@ fn push_change(
     last: bool,
     change: Change,
 ) -> Result<(), NoMemory>
-    requires { IsTextChange change }
+    requires { IsPrintable change }
     ensures { OnOk result (text.new ≡ text.old ++ event_line (record { commit = 1; op = op; moment = moment; last = last; change = change })) }
 {
     let event = Event {
@@ -84,7 +84,7 @@ fn push_changes(
     moment: u64,
     changes: List<Change>,
 ) -> Result<(), NoMemory>
-    requires { All IsTextChange changes }
+    requires { All IsPrintable changes }
     ensures { OnOk result (text.new ≡ text.old ++ change_lines moment changes) }
 {
     let changes = changes.into_vec();
@@ -106,7 +106,7 @@ pub fn load_output(
     with_changes: bool,
     loaded: Loaded,
 ) -> Result<Text, NoMemory>
-    requires { All IsTextChange loaded.changes }
+    requires { All IsPrintable loaded.changes }
     ensures { IfOk result (λ text. text ≡ load_output salt moment with_changes loaded) }
 {
     let Loaded {

@@ -103,6 +103,10 @@ const ONE_OF_TWO: &[u8] = b"00000000-0000-4000-8000-000000000001 LOAD_COMPLETED 
 
 const THOUSAND: &[u8] = b"00000000-0000-4000-8000-000000000001 LOAD_COMPLETED 1000 999 0 0 0\n";
 
+const SEVENTEEN: &[u8] = b"a,1;2;3;4;5;6;7;8;9;10;11;12;13;14;15;16;17\n";
+
+const FULL: &[u8] = b"00000000-0000-4000-8000-000000000001 LOAD_COMPLETED 964 963 0 0 0\n";
+
 const FAILED: &[u8] = b"00000000-0000-4000-8000-000000000001 LOAD_FAILED 0 0 0 0 0\n";
 
 const USAGE: &[u8] = b"bl: usage: see help\n";
@@ -167,27 +171,34 @@ fn a_fault_of_a_sink_is_a_write_fault(rt: HostRuntime) {
 #[test]
 fn the_bytes_of_a_file_decide_what_is_loaded(rt: HostRuntime) {
     let table = [
-        (b"~id\n".as_slice(), Status::Ok, NO_RECORD),
+        (b"".as_slice(), Status::Ok, NO_RECORD),
+        (b"\n\r\n", Status::Ok, NO_RECORD),
+        (b"~id\n", Status::Ok, NO_RECORD),
         (b"~id,~label,name\n", Status::Ok, NO_RECORD),
+        (b"\xef\xbb\xbf~id\nv1\n", Status::Ok, ONE),
         (b"~id\nv1\nv1\n", Status::Ok, ONE_OF_TWO),
         (b"~id,name\nv1,Ann\nv1,Bob\n", Status::Ok, TWO),
         (b"~id,~label\nv1,a\nv1,b\n", Status::Ok, TWO),
+        (b"~id,~label\nv1,a;b\nv1,b;a\n", Status::Ok, ONE_OF_TWO),
         (b"~id,a,b\r\nv1,1,2\r\n\r\nv2,,\r\n", Status::Ok, TWO),
-        (b"~id,a\nv1,\"x,\"\"y\"\"\nz\"\n", Status::Ok, ONE),
         (b"~id\n v1 \nv1", Status::Ok, ONE_OF_TWO),
-        (b"", Status::NotBuilt, NONE),
-        (b"\xef\xbb\xbf~id\nv1\n", Status::NotBuilt, NONE),
-        (b"~id,age:Int\nv1,1\n", Status::NotBuilt, NONE),
-        (b"~id,name:string\nv1,Ann\n", Status::NotBuilt, NONE),
-        (b"name,~id\nAnn,v1\n", Status::NotBuilt, NONE),
+        (b"~id,age:Int\nv1,1\nv1, +1 \n", Status::Ok, ONE_OF_TWO),
+        (b"age:BYTE,~id\n-128,v1\n", Status::Ok, ONE),
+        (
+            b"~id, a\\:b :Date[]\nv1,2020-02-29;2020-02-29T00:00\n",
+            Status::Ok,
+            ONE,
+        ),
+        (b"~id,age:Byte\na,127\nb,128\n", Status::NotBuilt, NONE),
+        (b"~id,when:Date\na,2021-02-29\n", Status::NotBuilt, NONE),
+        (b"~id,a:Int(single)\nv1,1\n", Status::NotBuilt, NONE),
+        (b"~id,a:Float\nv1,1\n", Status::NotBuilt, NONE),
+        (b"~id,~from,~to\ne1,v1,v1\n", Status::NotBuilt, NONE),
+        (b"name\nAnn\n", Status::NotBuilt, NONE),
         (b"~id,a,a\nv1,1,2\n", Status::NotBuilt, NONE),
-        (b"~id,\nv1,\n", Status::NotBuilt, NONE),
-        (b"~id, a\nv1,1\n", Status::NotBuilt, NONE),
         (b"~id,a\nv1\n", Status::NotBuilt, NONE),
         (b"~id,a\nv1,\xff\n", Status::NotBuilt, NONE),
         (b"~id,a\n,1\n", Status::NotBuilt, NONE),
-        (b"~id,~label\nv1,a;b\n", Status::NotBuilt, NONE),
-        (b"~id,~label\nv1,a\\b\n", Status::NotBuilt, NONE),
     ];
     for (bytes, status, out) in table {
         let outcome = run_over(&rt, rt.alloc(), "load s3://b/x.csv", bytes, (0, 0, 0)).expect(
@@ -210,8 +221,18 @@ fn files_at_the_limits_are_loaded_and_no_larger_ones(rt: HostRuntime) {
             THOUSAND,
         ),
         (b"~id\n", b"a\n", 1_001, b"", Status::NotBuilt, NONE),
-        (b"~id,t\na,", b"x", 16_375, b"\n", Status::Ok, ONE),
-        (b"~id,t\na,", b"x", 16_376, b"\n", Status::NotBuilt, NONE),
+        // 964 rows of 17 values are the first to reach 16,384 of them.
+        (b"~id,n:Byte[]\n", SEVENTEEN, 964, b"", Status::Ok, FULL),
+        (
+            b"~id,n:Byte[]\n",
+            SEVENTEEN,
+            965,
+            b"",
+            Status::NotBuilt,
+            NONE,
+        ),
+        (b"~id,t\na,", b"x", 1_048_575, b"\n", Status::Ok, ONE),
+        (b"~id,t\na,", b"x", 1_048_576, b"\n", Status::NotBuilt, NONE),
         (b"~id,", b"n", 256, b"\nv1,1\n", Status::Ok, ONE),
         (b"~id,", b"n", 257, b"\nv1,1\n", Status::NotBuilt, NONE),
         (b"~id\n", b"v", 1_024, b"\n", Status::Ok, ONE),
@@ -230,5 +251,92 @@ fn files_at_the_limits_are_loaded_and_no_larger_ones(rt: HostRuntime) {
         .expect(&rt, "memory");
         assert!(rt; outcome.status == status, "status at {times}");
         assert!(rt; outcome.out.as_slice() == out, "output at {times}");
+    }
+}
+
+// The line of a change of the vertex `v1`, and a line end.
+fn line(
+    alloc: Global,
+    op: u64,
+    key: &str,
+    kind: &str,
+    value: &str,
+    last: &str,
+) -> Result<Text, NoMemory> {
+    let of = if key == "label" { "vl" } else { "vp" };
+    let line = format!(in alloc;
+        "{{\"commitTimestamp\":0,\"data\":{{\"id\":\"v1\",\"key\":\"{key}\",\"type\":\"{of}\",\"value\":{{\"dataType\":\"{kind}\",\"value\":{value}}}}},\"eventId\":{{\"commitNum\":1,\"opNum\":{op}}},{last}\"op\":\"ADD\"}}\n"
+    )?;
+    Text::copy_of(alloc, line.as_bytes())
+}
+
+// The output of a load of one vertex without a label, with these values at one key.
+fn lines_of(alloc: Global, key: &str, kind: &str, values: &[&str]) -> Result<Text, NoMemory> {
+    let mut text = line(alloc, 1, "label", "String", "\"vertex\"", "")?;
+    let mut op: u64 = 1;
+    for value in values {
+        op = op.saturating_add(1);
+        let last = if op == values.len() as u64 + 1 {
+            "\"isLastOp\":true,"
+        } else {
+            ""
+        };
+        text.extend(line(alloc, op, key, kind, value, last)?.as_slice())?;
+    }
+    text.extend(ONE)?;
+    Ok(text)
+}
+
+#[test]
+fn values_of_every_type_are_printed(rt: HostRuntime) {
+    let table: [(&[u8], &str, &str, &[&str]); 8] = [
+        (
+            b"~id,tags:String[]\nv1,a\\;b;;a;a\n",
+            "tags",
+            "String",
+            &["\"a;b\"", "\"a\""],
+        ),
+        (
+            b"~id,t:String\nv1,\"a,\"\"b\"\"\nc\"",
+            "t",
+            "String",
+            &["\"a,\\\"b\\\"\\nc\""],
+        ),
+        (
+            b"~id,ok:Bool[]\nv1,TRUE;yes\n",
+            "ok",
+            "Boolean",
+            &["true", "false"],
+        ),
+        (b"~id,n:Byte\nv1,-128\n", "n", "Byte", &["-128"]),
+        (b"~id,n:Short\nv1,+32767\n", "n", "Short", &["32767"]),
+        (b"~id,n:Int[]\nv1,7;;+7; 007 ;-0\n", "n", "Int", &["7", "0"]),
+        (
+            b"~id,n:Long\nv1,-9223372036854775808\n",
+            "n",
+            "Long",
+            &["-9223372036854775808"],
+        ),
+        (
+            b"~id,d:Date[]\nv1,2020-02-29T23:59;0000-01-01\n",
+            "d",
+            "Date",
+            &["\"2020-02-29T23:59:00Z\"", "\"0000-01-01T00:00:00Z\""],
+        ),
+    ];
+    for (bytes, key, kind, values) in &table {
+        let outcome = run_over(
+            &rt,
+            rt.alloc(),
+            "load s3://b/x.csv --changes",
+            bytes,
+            (0, 0, 0),
+        )
+        .expect(&rt, "memory");
+        let lines = lines_of(rt.alloc(), key, kind, values).expect(&rt, "memory");
+        assert!(rt;
+            outcome.out.as_slice() == lines.as_slice(),
+            "output of {bytes:?}"
+        );
     }
 }

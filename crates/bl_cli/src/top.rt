@@ -3,16 +3,15 @@ ghost use Rattle.std.specs.Prelude.{◌≡◌, ◌⊎◌, ◌≤◌, ◌++◌, �
 ghost use Rattle.std.specs.List.{All};
 ghost use Rattle.std.specs.Str.{IsUtf8};
 ghost use Rattle.bl_outside.specs.Counts.{HasDeviceCause, Rose};
+ghost use Rattle.bl_value.specs.Valid.{IsPrintable};
 ghost use Rattle.bl_graph.specs.Graph.{empty as empty_graph};
 ghost use Rattle.bl_graph.specs.Replay.{after};
 ghost use Rattle.bl_cli.specs.Words.{asked};
-ghost use Rattle.bl_cli.specs.Loads.{file_load};
+ghost use Rattle.bl_cli.specs.Loads.{IsFileLoad, IsThe};
 ghost use Rattle.bl_cli.specs.Outputs.{failed_line, load_output};
-ghost use Rattle.bl_cli.specs.Printable.{IsTextChange};
 ghost use Rattle.bl_cli.specs.Runs.{Adds, EndsInFront, HasLine, IsAnswer, IsNotBuilt, IsQuiet, LeavesFront, LoadPrints, OfCommand, OfFiles, Prints, Reports, Written};
 ghost use Rattle.bl_cli.specs.Statuses.{line_of};
 
-use crate::file::{FileRead, read_small_file};
 use crate::loading::{Loaded, is_compressed, load_bytes};
 use crate::outputs::{failed_line, load_output};
 use crate::status::Status;
@@ -20,6 +19,7 @@ use crate::words::{Asked, read_words};
 use bl_outside::{
     Clock, Disk, Disks, Failed, Folder, Listing, NoMemory, Outside, Sink, Source, Text,
 };
+use bl_rows::{FileRefusal, read_file};
 use std::alloc::Global;
 use std::thread::Threads;
 
@@ -30,8 +30,8 @@ fn load_file<F: Folder>(
     path: &Text,
 ) -> Result<Option<Loaded>, Outside>
     requires { IsUtf8 path.now }
-    ensures load { IfOk result (λ loaded. OfFiles (F.files folder.old) (λ files. loaded ≡ file_load files path.now)) }
-    ensures texts { IfOk result (λ loaded. IfSome loaded (λ load. All IsTextChange load.changes)) }
+    ensures load { IfOk result (λ loaded. OfFiles (F.files folder.old) (λ files. IsThe (IsFileLoad files path.now) loaded)) }
+    ensures printable { IfOk result (λ loaded. IfSome loaded (λ load. All IsPrintable load.changes)) }
     ensures replays { IfOk result (λ loaded. IfSome loaded (λ load. after empty_graph load.changes ≡ load.graph)) }
     ensures files { F.files folder.new ≡ F.files folder.old }
     ensures cause { HasDeviceCause (F.faults folder.old) (F.faults folder.new) result }
@@ -43,9 +43,11 @@ fn load_file<F: Folder>(
     if is_compressed(path.as_slice()) {
         return Ok(None);
     }
-    match read_small_file(alloc, folder, path)? {
-        FileRead::Whole(bytes) => Ok(load_bytes(alloc, bytes)?),
-        FileRead::Missing | FileRead::TooLarge => Ok(None),
+    match read_file(alloc, folder, path) {
+        Ok(file) => Ok(load_bytes(alloc, file)?),
+        Err(FileRefusal::Missing | FileRefusal::TooLarge) => Ok(None),
+        Err(FileRefusal::ReadFault) => Err(Outside::Failed),
+        Err(FileRefusal::NoMemory) => Err(Outside::NoMemory),
     }
 }
 
@@ -71,7 +73,7 @@ fn print_load<K: Clock, O: Sink>(
     loaded: Loaded,
     out: &mut O,
 ) -> Status
-    requires { All IsTextChange loaded.changes }
+    requires { All IsPrintable loaded.changes }
     ensures prints { Prints Status.Ok (load_output salt (K.last clock.new) changes loaded) (O.written out.old) (O.written out.new) result }
     ensures write_fault { result ≡ Status.WriteFault → Rose (O.faults out.old) (O.faults out.new) }
     ensures later { O.faults out.old ≤ O.faults out.new }
@@ -104,7 +106,7 @@ fn finish<K: Clock, O: Sink>(
     found: Option<Loaded>,
     out: &mut O,
 ) -> Status
-    requires { IfSome found (λ load. All IsTextChange load.changes) }
+    requires { IfSome found (λ load. All IsPrintable load.changes) }
     ensures ends { MatchOption found ((result ≡ Status.NotBuilt) × (O.written out.new ≡ O.written out.old))
         (λ load. Prints Status.Ok (load_output salt (K.last clock.new) changes load) (O.written out.old) (O.written out.new) result) }
     ensures write_fault { result ≡ Status.WriteFault → Rose (O.faults out.old) (O.faults out.new) }
@@ -218,7 +220,7 @@ fn respond<F: Folder, K: Clock, O: Sink, E: Sink>(
 }
 
 /// Runs the words behind ROOT and STORE over a folder, three disks, a clock and streams, and gives
-/// the disks back. So far it loads one plain vertex file into an empty graph, prints its changes
+/// the disks back. So far it loads one vertex file of one batch into an empty graph, prints its changes
 /// and its line, and leaves the disks and the input alone.
 ///
 /// The load's id is made of the salt, and its moment is the clock's. Status 2 and above write their
@@ -235,7 +237,7 @@ pub fn run<R: Threads + Sync, F: Folder, D: Disk, K: Clock, S: Source, O: Sink, 
     out: &mut O,
     err: &mut E,
 ) -> (Status, Disks<D>)
-    // Ok: the words ask for a load of a plain file, and its output was written whole. Its changes,
+    // Ok: the words ask for a load of a file that is loaded so far, and its output was written whole. Its changes,
     // replayed from the empty graph, give the graph of its rows.
     ensures ok { result.0 ≡ Status.Ok → OfCommand (map string_bytes words.now) (λ command. LoadPrints Adds (F.files folder.old) command salt (K.last clock.new) (O.written out.old) (O.written out.new)) }
 

@@ -3,7 +3,7 @@ ghost use Rattle.std.specs.Prelude.{◌≡◌, length, map, IfOk, IfSome, string
 ghost use Rattle.std.specs.Str.{IsUtf8};
 ghost use Rattle.bl_cli.specs.Words.{asked, asked_of, is_word};
 
-use crate::source::path_of;
+use bl_files::path_of;
 use bl_outside::{NoMemory, Text};
 use std::alloc::Global;
 

@@ -6,8 +6,8 @@
 //! ordered by [`compare`], and [`json_value`] is how a value stands in a change record.
 //!
 //! Words of the contracts: `specs/Order` (the order of values), `specs/Cells` (what a cell and an
-//! array cell mean), `specs/Dates` and `specs/Json` (the text and the JSON of a value), `specs/Valid`
-//! (what a valid thing is).
+//! array cell mean), `specs/Dates` and `specs/Json` (the text and the JSON of a value), `specs/Valid`,
+//! `specs/ValidColumns` and `specs/ValidRows` (what a valid thing is).
 //! This crate stands on `bl_outside`.
 #![tactic(auto)]
 

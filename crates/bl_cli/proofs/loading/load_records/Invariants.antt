@@ -1,18 +1,16 @@
-use Rattle.std.proofs.Common.{◌≡◌, ◌≤◌, drop}
-use Rattle.std.specs.List.{All}
-use Rattle.std.specs.Option.{option_map}
-use Rattle.bl_graph.specs.Graph.{empty as empty_graph}
-use Rattle.bl_graph.specs.Replay.{after}
-use Rattle.bl_cli.specs.Printable.{IsTextChange}
-use Rattle.bl_cli.specs.Loads.{load_of, plain_rows, with_rows}
+use Rattle.std.proofs.Common.{◌≡◌, ◌-◌, ℕ, List}
+use Rattle.bl_rows.specs.Contents.{Fields}
+use Rattle.bl_rows.specs.RowReaders.{Stands}
+use Rattle.bl_cli.specs.Loads.{nothing_taken, take_all}
+use Rattle.bl_cli.specs.Taking.{IsWhole}
 use Rattle.bl_cli.proofs.loading.load_records.Given as goal
 
--- what is loaded, and then the rows that are left, is the load of all
-abbrev pub invariant-loop-fields : goal.invariant-loop-fields
-invariant-loop-fields l = record {
-  load : option_map (with_rows l.loaded) (plain_rows l.uses (drop l.fields-index l.records)) ≡ option_map load_of (plain_rows l.uses l.records);
-  records : l.loaded.records ≡ l.fields-index;
-  duplicates : l.loaded.duplicates ≤ l.fields-index;
-  texts : All IsTextChange l.loaded.changes;
-  replays : after empty_graph l.loaded.changes ≡ l.loaded.graph;
-}
+-- what is taken, and then the records that are left, is the load of all
+abbrev pub invariant-loop-taken : goal.invariant-loop-taken
+invariant-loop-taken l =
+    IsWhole l.taken
+    × ((all : List Fields) (taken : ℕ) (left : List Fields) → Stands l.initial.reader all taken left
+    → (now : ℕ) × (rest : List Fields) × Stands l.reader all now rest × (take_all l.fn.columns l.taken rest ≡ take_all l.fn.columns nothing_taken left))
+
+abbrev pub decreases-loop-taken : goal.decreases-loop-taken
+decreases-loop-taken l = 1000 - l.taken.batch.rows

@@ -3,7 +3,7 @@ use Rattle.std.specs.List.{All, flat_map}
 use Rattle.std.specs.Vec.Iter.{into_iter_items}
 use Rattle.std.proofs.lemmas.List.Elements.{All-tail}
 use Rattle.bl_cli.specs.Outputs.{event_line, events_from}
-use Rattle.bl_cli.specs.Printable.{IsTextChange}
+use Rattle.bl_value.specs.Valid.{IsPrintable}
 use Rattle.bl_cli.proofs.Lines.{last_is, line_more}
 use Rattle.bl_cli.proofs.outputs.push_changes.Goals as goal
 
@@ -18,5 +18,5 @@ loop-change-preserved c =
           (last_is (c.loop-change.op + 1) c.len-count.result (into_iter_items c.next.new.self) count)
           c.in_ok-push_change.ensures
           (ap (λ rest. c.loop-change.text ++ flat_map event_line (events_from 1 (c.loop-change.op + 1) c.args.moment rest)) (sym more) ∙ c.loop-change.invariant.lines);
-      texts = All-tail IsTextChange c.in-Some.change (into_iter_items c.next.new.self) (subst (All IsTextChange) more c.loop-change.invariant.texts);
+      texts = All-tail IsPrintable c.in-Some.change (into_iter_items c.next.new.self) (subst (All IsPrintable) more c.loop-change.invariant.texts);
     }

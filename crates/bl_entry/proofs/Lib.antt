@@ -1,0 +1,7 @@
+mod Utf8
+mod Parses
+mod Numbers
+mod Parts
+mod Entries
+mod Loop
+mod Appends

@@ -1,0 +1,6 @@
+mod Members
+mod FeedOrder
+mod CarriedFeeds
+mod TestFeeds
+mod Parts
+mod Utf8

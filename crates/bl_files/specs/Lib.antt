@@ -1,0 +1,6 @@
+pub mod Codes
+pub mod Carried
+pub mod Collected
+pub mod Shown
+pub mod ErrorFeed
+pub mod Sources

@@ -1,0 +1,7 @@
+mod Utf8
+mod NameParts
+mod Repeats
+mod FirstFaults
+mod Refusals
+mod ValidColumns
+mod Spellings
