@@ -1,10 +1,10 @@
 #!/bin/sh
 # Builds bl_bench and times its layers from outside, each at a size and at twice that size:
-#   bench/run.sh [FRAMES]
-# Twice as many frames should take about twice as long.
+#   bench/run.sh [SIZE]
+# Twice as many items should take about twice as long.
 set -eu
 cd "$(dirname "$0")/.."
-frames=${1:-100000}
+size=${1:-100000}
 (cd crates/bl_bench && rt run -- append 1 >/dev/null)
 bench=crates/bl_bench/out/bl_bench
 
@@ -17,8 +17,12 @@ timed() {
         $(((end - start) / 1000000000)) $(((end - start) / 1000000 % 1000))
 }
 
-# `open` appends first: the opening itself is what it takes longer than `append`.
-for size in "$frames" $((2 * frames)); do
-    timed append "$size"
-    timed open "$size"
+# `open` appends first, and `convert` reads by `csv` as `records` does: what they take longer is the
+# opening, and the digests and rows. An entry here is a batch of 1,000 rows.
+for n in "$size" $((2 * size)); do
+    timed append "$n"
+    timed open "$n"
+    timed records "$n"
+    timed convert "$n"
+    timed entries $((n / 100))
 done

@@ -3,16 +3,10 @@ ghost use Rattle.std.specs.Prelude.{◌≡◌, ◌+◌, ◌*◌, ◌++◌, [], N
 ghost use Rattle.bl_journal.specs.Journals.{Ends, IsAtGate, Stands};
 ghost use Rattle.bl_bench.specs.Counting.{Counted, alike};
 
+use crate::counts::Counts;
 use bl_journal::{AppendRefusal, Journal};
 use bl_outside::{Disk, Faults, JournalFault, MemoryDisk, Text};
 use std::alloc::Global;
-
-/// How many frames there are, and how many bytes.
-#[derive(Clone, Copy, Debug, PartialEq, Eq)]
-pub struct Counts {
-    pub frames: u64,
-    pub bytes: u64,
-}
 
 const BODY: [u8; 100] = [7; 100];
 
@@ -68,7 +62,10 @@ fn read_frames(journal: &mut Journal<MemoryDisk>) -> Option<Counts>
             return None;
         };
         let Some(body) = found else {
-            return Some(Counts { frames, bytes });
+            return Some(Counts {
+                items: frames,
+                bytes,
+            });
         };
         bytes = bytes.checked_add(body.len() as u64)?;
     }
@@ -77,19 +74,19 @@ fn read_frames(journal: &mut Journal<MemoryDisk>) -> Option<Counts>
 
 /// Appends frames to a new journal, and counts the bytes up to the gate behind them.
 pub fn append(alloc: Global, frames: u64) -> Option<Counts>
-    ensures frames { IfSome result (λ counts. counts.frames ≡ frames) }
+    ensures frames { IfSome result (λ counts. counts.items ≡ frames) }
     ensures bytes { IfSome result (λ counts. counts.bytes ≡ 15 + 105 * frames) }
 {
     let journal = filled(alloc, frames)?;
     Some(Counts {
-        frames,
+        items: frames,
         bytes: journal.place(),
     })
 }
 
 /// Appends frames, opens the journal again, and counts the frames and the bytes of their bodies.
 pub fn open(alloc: Global, frames: u64) -> Option<Counts>
-    ensures frames { IfSome result (λ counts. counts.frames ≡ frames) }
+    ensures frames { IfSome result (λ counts. counts.items ≡ frames) }
     ensures bytes { IfSome result (λ counts. counts.bytes ≡ 100 * frames) }
 {
     let filled = filled(alloc, frames)?;

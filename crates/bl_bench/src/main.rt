@@ -3,16 +3,36 @@
 //! `bl_bench LAYER SIZE` runs a layer on input of that size, which it makes in memory, and prints
 //! counts alone, the same on each run. `bench/run.sh` times it.
 //!
-//! | Layer | What is done |
-//! |---|---|
-//! | `append` | SIZE frames of 100 bytes are appended to a journal over a disk in memory |
-//! | `open` | the same, and then the journal is opened again and read to its end |
+//! | Layer | What is done | Items and bytes that are counted |
+//! |---|---|---|
+//! | `append` | SIZE frames of 100 bytes are appended to a journal over a disk in memory | the frames, and the bytes up to the gate behind them |
+//! | `open` | the same, and then the journal is opened again and read to its end | the frames, and the bytes of their bodies |
+//! | `records` | SIZE rows of ten cells are read by `csv` alone | the rows, and the bytes of their fields |
+//! | `convert` | the same rows are read, digested and converted | the same |
+//! | `entries` | a batch of 1,000 rows and 3,000 changes is decoded and encoded SIZE times | the times, and the bytes written |
 #![tactic(auto)]
 
+mod counts;
+mod entries;
 mod journal;
+mod rows;
 
+use counts::Counts;
+use std::alloc::Global;
 use std::process::ExitCode;
 use std::{env, io};
+
+// The layer of this name at a size. None where there is none, or it failed.
+fn run(alloc: Global, layer: &str, size: u64) -> Option<Counts> {
+    match layer {
+        "append" => journal::append(alloc, size),
+        "open" => journal::open(alloc, size),
+        "records" => rows::records(alloc, size),
+        "convert" => rows::converted(alloc, size),
+        "entries" => entries::entries(alloc, size),
+        _ => None,
+    }
+}
 
 fn main(rt: HostRuntime) -> io::Result<ExitCode> {
     let mut words = env::args(&rt)?.skip(1);
@@ -22,14 +42,9 @@ fn main(rt: HostRuntime) -> io::Result<ExitCode> {
         println!(rt; "usage: bl_bench LAYER SIZE")?;
         return Ok(ExitCode::from(2));
     };
-    let counts = match layer.as_str() {
-        "append" => journal::append(rt.alloc(), size),
-        "open" => journal::open(rt.alloc(), size),
-        _ => None,
-    };
-    match counts {
+    match run(rt.alloc(), layer.as_str(), size) {
         Some(counts) => {
-            println!(rt; "frames {} bytes {}", counts.frames, counts.bytes)?;
+            println!(rt; "items {} bytes {}", counts.items, counts.bytes)?;
             Ok(ExitCode::SUCCESS)
         }
         None => {

@@ -2,7 +2,7 @@ use Rattle.std.proofs.Common.{inl, refl, subst, IfSome}
 use Rattle.bl_outside.specs.contracts.memory_disk.MemoryDiskDisk.TheImpl as memory
 use Rattle.bl_journal.specs.Journals.{Begins}
 use Rattle.bl_bench.specs.Counting.{Counted, alike}
-use Rattle.bl_bench.proofs.Counts.{ahead_again, bytes_alike, frames_alike}
+use Rattle.bl_bench.proofs.Counting.{ahead_again, bytes_alike, frames_alike}
 use Rattle.bl_bench.proofs.journal.open.Goals as goal
 
 opened : (c : goal.After-drop-journal-inside-4) → IfSome c.read_frames.result (Counted (alike c.args.frames))

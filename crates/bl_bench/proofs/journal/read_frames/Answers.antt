@@ -3,7 +3,7 @@ use Rattle.std.proofs.lemmas.List.{length-append}
 use Rattle.std.proofs.lemmas.List.Sums.{sum_by_push}
 use Rattle.bl_outside.specs.contracts.memory_disk.MemoryDiskDisk.TheImpl as memory
 use Rattle.bl_journal.specs.Journals.{NextIs}
-use Rattle.bl_bench.proofs.Counts.{all_counted, prefixed_more}
+use Rattle.bl_bench.proofs.Counting.{all_counted, prefixed_more}
 use Rattle.bl_bench.proofs.journal.read_frames.Goals as goal
 
 pub returns-in_default-found : goal.returns-in_default-found
@@ -12,7 +12,7 @@ returns-in_default-found c = λ bodies stands.
     let end : NextIs (memory.ghosts.seen c.next.new.self.disk) c.next.new.self.place kept.0 kept.1 (Ok None) =
     subst (λ found. NextIs (memory.ghosts.seen c.next.new.self.disk) c.next.new.self.place kept.0 kept.1 (Ok found)) c.in_default-found.is
     (c.in-Ok.ensures.stands kept.0 kept.1 kept.2) in
-    all_counted bodies kept.0 kept.1 (record { frames = c.loop-frames.frames; bytes = c.loop-frames.bytes }) kept.3 end.0 kept.4 kept.5
+    all_counted bodies kept.0 kept.1 (record { items = c.loop-frames.frames; bytes = c.loop-frames.bytes }) kept.3 end.0 kept.4 kept.5
 
 pub loop-frames-preserved : goal.loop-frames-preserved
 loop-frames-preserved c = (

@@ -5,14 +5,14 @@ use Rattle.std.proofs.lemmas.List.Folds.{sum_by-replicate}
 use Rattle.bl_journal.specs.Frames.{Found, frames, prefixed}
 use Rattle.bl_journal.specs.Journals.{Begins, SeesFrames, Stands}
 use Rattle.bl_bench.specs.Counting.{Counted, alike, body}
-use Rattle.bl_bench.specs.declared.journal.Counts.{Counts}
+use Rattle.bl_bench.specs.declared.counts.Counts.{Counts}
 
 -- where nothing lies ahead, all bodies were counted
-pub all_counted : (bodies done : List (List ℕ)) (ahead : Found) (counts : Counts) → ◌≡◌ {A = Found} (bodies, None) (prefixed done ahead) → ahead ≡ ([], None) → counts.frames ≡ length done → counts.bytes ≡ sum_by length done → Counted bodies counts
+pub all_counted : (bodies done : List (List ℕ)) (ahead : Found) (counts : Counts) → ◌≡◌ {A = Found} (bodies, None) (prefixed done ahead) → ahead ≡ ([], None) → counts.items ≡ length done → counts.bytes ≡ sum_by length done → Counted bodies counts
 all_counted bodies done ahead counts all end frames bytes =
     let same : bodies ≡ done = ap (λ (f : Found). f.0) all ∙ ap (λ (f : Found). done ++ f.0) end ∙ append-nil done in
     record {
-      frames = frames ∙ ap length (sym same);
+      items = frames ∙ ap length (sym same);
       bytes = bytes ∙ ap (λ them. sum_by length them) (sym same);
     }
 
@@ -29,9 +29,9 @@ ahead_again before seen place first bodies stood begins is =
     subst (λ at. Stands seen at [] (bodies, None)) (sym is) (subst (λ found. Stands seen 15 [] found) (sym all ∙ own) begins.stands)
 
 -- what is counted of frames that are all alike
-pub frames_alike : (n : ℕ) (counts : Option Counts) → IfSome counts (Counted (alike n)) → IfSome counts (λ them. them.frames ≡ n)
+pub frames_alike : (n : ℕ) (counts : Option Counts) → IfSome counts (Counted (alike n)) → IfSome counts (λ them. them.items ≡ n)
 frames_alike n None counted = tt
-frames_alike n (Some them) counted = counted.frames ∙ length-replicate n body
+frames_alike n (Some them) counted = counted.items ∙ length-replicate n body
 
 pub bytes_alike : (n : ℕ) (counts : Option Counts) → IfSome counts (Counted (alike n)) → IfSome counts (λ them. them.bytes ≡ 100 * n)
 bytes_alike n None counted = tt
