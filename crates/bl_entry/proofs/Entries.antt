@@ -6,7 +6,7 @@ use Rattle.std.proofs.lemmas.List.{append-nil, nil_from_length}
 use Rattle.bl_outside.specs.declared.digest.Digest.{Digest}
 use Rattle.bl_value.specs.declared.log_code.LogCode.{LogCode}
 use Rattle.bl_value.specs.declared.change.Change.{Change}
-use Rattle.bl_value.specs.Valid.{IsShortText}
+use Rattle.bl_value.specs.Valid.{IsShortText, FitsChange}
 use Rattle.bl_files.specs.Sources.{is_kept_source}
 use Rattle.bl_files.specs.declared.log.Log.{Log}
 use Rattle.bl_files.specs.declared.feed_kind.FeedKind.{FeedKind}
@@ -24,7 +24,7 @@ use Rattle.bl_entry.specs.declared.entry.Entry.TheVariants.{Submit, Cancel, Star
 use Rattle.bl_entry.specs.declared.refusal.EntryRefusal.{EntryRefusal}
 use Rattle.bl_entry.specs.declared.refusal.EntryRefusal.TheVariants.{NotAnEntry, NoMemory}
 use Rattle.bl_entry.specs.Encoding.{u8_bytes, u32_bytes, u64_bytes, u128_bytes, text_bytes, digest_bytes, list_bytes, code_bytes, log_bytes, change_bytes, kind_bytes, found_bytes, plan_bytes, end_bytes, mode_bytes, request_bytes, entry_bytes}
-use Rattle.bl_entry.specs.Valid.{IsDigest, IsLog, FitsChange, IsKind, IsFound, IsList, IsPlan, IsEnd, IsRequest, IsEntry}
+use Rattle.bl_entry.specs.Valid.{IsDigest, IsLog, IsKind, IsFound, IsList, IsPlan, IsEnd, IsRequest, IsEntry}
 use Rattle.bl_entry.specs.Reading.{◌>>=◌, Gives, both_at, number_at, long_at, list_at, digest_at, code_at, log_at, change_at, kind_at, found_at, plan_at, end_at, mode_at, below_at, source_at, request_at, submit_at, cancel_at, start_at, batch_at, feed_end_at, entry_at, whole_at}
 use Rattle.bl_entry.specs.Decoded.{Decodes, NoneBegins}
 use Rattle.bl_entry.proofs.Parses.{IsBytes, IsBytes-rest, bind_some, guard_is, Takes, Parses, both_parses, made_parses, tagged_takes, tagged_again, alone_takes, tested_parses, valid_parses, number_parses, list_parses, one_form}

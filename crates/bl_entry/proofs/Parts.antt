@@ -16,10 +16,10 @@ use Rattle.bl_value.specs.declared.value.Value.{Value}
 use Rattle.bl_value.specs.declared.value.Value.TheVariants as value
 use Rattle.bl_value.specs.declared.change.Change.{Change}
 use Rattle.bl_value.specs.declared.change.Change.TheVariants.{AddLabel, AddEdge, AddValue, RemoveValue}
-use Rattle.bl_value.specs.Valid.{IsId, IsKey, IsShortText, IsDate}
+use Rattle.bl_value.specs.Valid.{IsId, IsKey, IsShortText, IsDate, FitsValue, FitsChange}
 use Rattle.bl_files.specs.declared.log.Log.{Log}
 use Rattle.bl_entry.specs.Encoding.{text_bytes, truth_bytes, digest_bytes, code_number, code_bytes, log_bytes, side_bytes, value_bytes, change_bytes}
-use Rattle.bl_entry.specs.Valid.{IsDigest, IsLog, FitsValue, FitsChange}
+use Rattle.bl_entry.specs.Valid.{IsDigest, IsLog}
 use Rattle.bl_entry.specs.Reading.{◌>>=◌, both_at, tested_at, front_at, number_at, signed_at, truth_at, text_at, digest_at, is_within, short_at, all_codes, code_of, code_at, log_at, side_at, is_date, value_at, property_at, change_at}
 use Rattle.bl_entry.proofs.Parses.{IsBytes, IsBytes-rest, bind_some, guard_is, some_is, Takes, Takes-then, Parses, both_parses, made_parses, tagged_takes, tagged_again, alone_takes, tested_parses, valid_parses, front_takes, front_again, number_parses}
 use Rattle.bl_entry.proofs.Numbers.{wide8, wide16, wide32, wide64, signed_parses}

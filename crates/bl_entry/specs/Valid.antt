@@ -1,13 +1,8 @@
 -- What a valid entry is: the ranges of its parts.
-use Rattle.std.specs.Prelude.{◌≡◌, ◌<◌, ◌^◌, true, List, length, FitsSigned}
+use Rattle.std.specs.Prelude.{◌≡◌, ◌<◌, ◌^◌, true, List, length}
 use Rattle.std.specs.List.{All}
-use Rattle.std.specs.Int.{w8, w16, w32, w64}
 use Rattle.bl_outside.specs.declared.digest.Digest.{Digest}
-use Rattle.bl_value.specs.declared.value.Value.{Value}
-use Rattle.bl_value.specs.declared.value.Value.TheVariants.{Bool, Byte, Short, Int, Long, Str, Date}
-use Rattle.bl_value.specs.declared.change.Change.{Change}
-use Rattle.bl_value.specs.declared.change.Change.TheVariants.{AddLabel, AddEdge, AddValue, RemoveValue}
-use Rattle.bl_value.specs.Valid.{IsId, IsKey, IsShortText, IsDate}
+use Rattle.bl_value.specs.Valid.{IsShortText, FitsChange}
 use Rattle.bl_files.specs.Sources.{is_kept_source}
 use Rattle.bl_files.specs.declared.log.Log.{Log}
 use Rattle.bl_files.specs.declared.feed_kind.FeedKind.{FeedKind}
@@ -26,22 +21,6 @@ IsDigest digest = length digest.bytes ≡ 32
 
 abbrev pub IsLog : Log → Type 0
 IsLog log = (log.number < 2 ^ 64) × (log.column < 2 ^ 32)
-
--- a value in the range of its type
-abbrev pub FitsValue : Value → Type 0
-FitsValue (Bool b) = Unit {0}
-FitsValue (Byte n) = FitsSigned w8 n
-FitsValue (Short n) = FitsSigned w16 n
-FitsValue (Int n) = FitsSigned w32 n
-FitsValue (Long n) = FitsSigned w64 n
-FitsValue (Str text) = IsShortText text
-FitsValue (Date n) = IsDate n
-
-abbrev pub FitsChange : Change → Type 0
-FitsChange (AddLabel id label) = IsId id × IsId label
-FitsChange (AddEdge id label from to) = IsId id × (IsId label × (IsId from × IsId to))
-FitsChange (AddValue side id key value) = IsId id × (IsKey key × FitsValue value)
-FitsChange (RemoveValue side id key value) = IsId id × (IsKey key × FitsValue value)
 
 abbrev pub IsKind : FeedKind → Type 0
 IsKind kind.Vertex = Unit {0}

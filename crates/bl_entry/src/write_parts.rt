@@ -1,7 +1,8 @@
 // The parts of an entry, written at the end of a text.
 ghost use Rattle.std.specs.Prelude.{◌≡◌, ◌++◌, ◌<◌, ◌^◌, length, OnOk};
 ghost use Rattle.bl_entry.specs.Encoding.{change_bytes, code_bytes, end_bytes, found_bytes, kind_bytes, log_bytes, mode_bytes, plan_bytes, request_bytes, side_bytes, text_bytes, truth_bytes, u128_bytes, u32_bytes, u64_bytes, value_bytes};
-ghost use Rattle.bl_entry.specs.Valid.{FitsChange, FitsValue, IsEnd, IsFound, IsKind, IsLog, IsPlan, IsRequest};
+ghost use Rattle.bl_value.specs.Valid.{FitsChange, FitsValue};
+ghost use Rattle.bl_entry.specs.Valid.{IsEnd, IsFound, IsKind, IsLog, IsPlan, IsRequest};
 
 use crate::code_number;
 use crate::part::write_list;
