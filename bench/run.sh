@@ -18,11 +18,13 @@ timed() {
 }
 
 # `open` appends first, and `convert` reads by `csv` as `records` does: what they take longer is the
-# opening, and the digests and rows. An entry here is a batch of 1,000 rows.
+# opening, and the digests and rows. An entry here is a batch of 1,000 rows. `admit` makes its rows in
+# memory and reads no file.
 for n in "$size" $((2 * size)); do
     timed append "$n"
     timed open "$n"
     timed records "$n"
     timed convert "$n"
     timed entries $((n / 100))
+    timed admit "$n"
 done

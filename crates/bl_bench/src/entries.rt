@@ -2,8 +2,8 @@
 ghost use Rattle.std.specs.Prelude.{◌≡◌, ◌<◌, ◌*◌, length, IfSome};
 
 use crate::counts::Counts;
-use bl_entry::{Steps, decode, encode};
-use bl_outside::{NoMemory, Text};
+use bl_entry::{decode, encode};
+use bl_outside::{NoMemory, Steps, Text};
 use std::alloc::Global;
 use std::marker::Brand;
 use std::sync::ledger::{Blank, Ledger};

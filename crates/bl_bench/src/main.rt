@@ -10,20 +10,31 @@
 //! | `records` | SIZE rows of ten cells are read by `csv` alone | the rows, and the bytes of their fields |
 //! | `convert` | the same rows are read, digested and converted | the same |
 //! | `entries` | a batch of 1,000 rows and 3,000 changes is decoded and encoded SIZE times | the times, and the bytes written |
+//! | `admit` | SIZE rows, half of them vertices and half edges, are admitted into a graph and their changes applied | what the rows did, and the sizes of the graph |
 #![tactic(auto)]
 
+mod admitting;
 mod counts;
 mod entries;
+mod graph_rows;
 mod journal;
 mod rows;
 
+use admitting::Admitting;
 use counts::Counts;
-use std::alloc::Global;
+use std::alloc::{AllocError, Global};
 use std::process::ExitCode;
 use std::{env, io};
 
-// The layer of this name at a size. None where there is none, or it failed.
-fn run(alloc: Global, layer: &str, size: u64) -> Option<Counts> {
+// What a layer did.
+#[derive(Drop)]
+enum Work {
+    Bytes(Counts),
+    Rows(Admitting),
+}
+
+// A layer that goes through bytes.
+fn through_bytes(alloc: Global, layer: &str, size: u64) -> Option<Counts> {
     match layer {
         "append" => journal::append(alloc, size),
         "open" => journal::open(alloc, size),
@@ -31,6 +42,28 @@ fn run(alloc: Global, layer: &str, size: u64) -> Option<Counts> {
         "convert" => rows::converted(alloc, size),
         "entries" => entries::entries(alloc, size),
         _ => None,
+    }
+}
+
+// The layer of this name at a size. None where there is none, or it failed.
+fn run(alloc: Global, layer: &str, size: u64) -> Option<Work> {
+    match layer {
+        "admit" => Some(Work::Rows(admitting::admitted(alloc, size)?)),
+        _ => Some(Work::Bytes(through_bytes(alloc, layer, size)?)),
+    }
+}
+
+// The line that tells of the work.
+fn line(alloc: Global, work: &Work) -> Result<String, AllocError> {
+    match work {
+        Work::Bytes(counts) => format!(in alloc; "items {} bytes {}", counts.items, counts.bytes),
+        Work::Rows(done) => {
+            let (vertices, edges, values) = done.graph.sizes();
+            format!(in alloc;
+                "rows {} changes {} duplicates {} refused {} vertices {vertices} edges {edges} values {values}",
+                done.rows, done.changes, done.duplicates, done.refused
+            )
+        }
     }
 }
 
@@ -42,14 +75,10 @@ fn main(rt: HostRuntime) -> io::Result<ExitCode> {
         println!(rt; "usage: bl_bench LAYER SIZE")?;
         return Ok(ExitCode::from(2));
     };
-    match run(rt.alloc(), layer.as_str(), size) {
-        Some(counts) => {
-            println!(rt; "items {} bytes {}", counts.items, counts.bytes)?;
-            Ok(ExitCode::SUCCESS)
-        }
-        None => {
-            println!(rt; "no such layer, or it failed")?;
-            Ok(ExitCode::FAILURE)
-        }
-    }
+    let Some(work) = run(rt.alloc(), layer.as_str(), size) else {
+        println!(rt; "no such layer, or it failed")?;
+        return Ok(ExitCode::FAILURE);
+    };
+    println!(rt; "{}", line(rt.alloc(), &work)?)?;
+    Ok(ExitCode::SUCCESS)
 }

@@ -1,5 +1,4 @@
 mod Lines
-mod Readers
 mod Meanings
 mod SetRows
 mod PrintableChanges

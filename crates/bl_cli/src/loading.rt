@@ -48,16 +48,6 @@ impl Loaded {
     }
 }
 
-// Applies the changes from left to right.
-fn apply_all(graph: &mut Graph, changes: &List<Change>) -> Result<(), NoMemory>
-    ensures { OnOk result (graph.new ≡ after graph.old changes.now) }
-{
-    for change in changes.as_slice() {
-        graph.apply(change)?;
-    }
-    Ok(())
-}
-
 fn append(all: &mut List<Change>, changes: List<Change>) -> Result<(), NoMemory>
     ensures { OnOk result (all.new ≡ all.old ++ changes) }
 {
@@ -95,7 +85,7 @@ fn take_row(loaded: &mut Loaded, row: &Row) -> Result<bool, NoMemory>
 {
     match loaded.graph.admit(false, row)? {
         Verdict::Changes(changes) => {
-            apply_all(&mut loaded.graph, &changes)?;
+            loaded.graph.apply_all(&changes)?;
             append(&mut loaded.changes, changes)?;
         }
         Verdict::Duplicate => loaded.duplicates += 1,

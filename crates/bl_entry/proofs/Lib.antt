@@ -1,4 +1,3 @@
-mod Utf8
 mod Parses
 mod Numbers
 mod Parts

@@ -6,8 +6,9 @@ ghost use Rattle.bl_entry.specs.Reading.{Gives, batch_at, cancel_at, entry_at, f
 use crate::part::read_list;
 use crate::read_files::{read_end, read_plan, read_request};
 use crate::read_parts::{read_digest, read_u32, read_u64, read_u128};
-use crate::{Entry, EntryRefusal, Steps};
+use crate::{Entry, EntryRefusal};
 use bl_files::Log;
+use bl_outside::Steps;
 use bl_value::Change;
 use std::alloc::Global;
 use std::sync::ledger::Ledger;

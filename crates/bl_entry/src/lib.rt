@@ -21,7 +21,6 @@ mod read_changes;
 mod read_files;
 mod read_parts;
 mod refusal;
-mod steps;
 mod write_parts;
 
 use code_number::{ALL_CODES, code_number};
@@ -30,7 +29,6 @@ pub use encoding::encode;
 pub use entry::Entry;
 pub use laws::no_encoding_begins_another;
 pub use refusal::EntryRefusal;
-pub use steps::Steps;
 
 #[cfg(test)]
 mod tests;

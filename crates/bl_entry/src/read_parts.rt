@@ -1,11 +1,10 @@
 // The parts of an entry, read from the front of the bytes. A reader gives the part and what follows.
 ghost use Rattle.std.specs.Prelude.{◌≡◌};
-ghost use Rattle.std.specs.Str.{is_utf8};
 ghost use Rattle.std.specs.Int.{w8, w16, w32, w64};
 ghost use Rattle.bl_entry.specs.Reading.{Gives, below_at, code_at, code_of, digest_at, front_at, is_date, long_at, number_at, short_at, signed_at, tested_at, text_at, truth_at};
 
 use crate::{ALL_CODES, EntryRefusal, code_number};
-use bl_outside::{Digest, Text};
+use bl_outside::{Digest, Text, is_utf8};
 use bl_value::LogCode;
 use std::alloc::Global;
 
@@ -115,7 +114,7 @@ pub fn read_text(alloc: Global, bytes: &[u8]) -> Result<(Text, &[u8]), EntryRefu
         return Err(EntryRefusal::NotAnEntry);
     }
     let (text, rest) = rest.split_at(length);
-    if !is_text(text) {
+    if !is_utf8(text) {
         return Err(EntryRefusal::NotAnEntry);
     }
     Ok((Text::copy_of(alloc, text)?, rest))
@@ -172,14 +171,4 @@ fn is_date(seconds: i64) -> bool
     ensures { result ≡ is_date seconds }
 {
     -62167219200 <= seconds && seconds <= 253402300799
-}
-
-// The bytes are UTF-8.
-fn is_text(bytes: &[u8]) -> bool
-    ensures { result ≡ is_utf8 bytes.now }
-{
-    match str::from_utf8(bytes) {
-        Ok(_) => true,
-        Err(_) => false,
-    }
 }

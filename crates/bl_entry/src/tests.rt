@@ -2,8 +2,8 @@
 ghost use Rattle.std.specs.Prelude.{◌≡◌, ◌<◌};
 ghost use Rattle.bl_entry.specs.Decoded.{Decodes};
 
-use crate::{Entry, EntryRefusal, Steps, decode, encode, no_encoding_begins_another};
-use bl_outside::{NoMemory, Text};
+use crate::{Entry, EntryRefusal, decode, encode, no_encoding_begins_another};
+use bl_outside::{NoMemory, Steps, Text};
 use std::alloc::Global;
 use std::marker::Brand;
 use std::sync::ledger::{Blank, Ledger};

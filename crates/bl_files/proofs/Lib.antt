@@ -3,4 +3,3 @@ mod FeedOrder
 mod CarriedFeeds
 mod TestFeeds
 mod Parts
-mod Utf8

@@ -1,10 +1,10 @@
 // The source of a load, and the path that a folder is asked for.
 ghost use Rattle.std.specs.Prelude.{◌≡◌, ◌==◌, position, IfOk, IfSome};
-ghost use Rattle.std.specs.Str.{IsUtf8, is_utf8};
+ghost use Rattle.std.specs.Str.{IsUtf8};
 ghost use Rattle.std.specs.List.{after_first, before_first, list_all};
 ghost use Rattle.bl_files.specs.Sources.{begins_well, if_text, is_bucket, is_bucket_byte, is_kept_key, is_kept_path, is_kept_source, is_key, is_letter_or_digit, is_part, is_slash, joined, kept_key, parts, path_behind, path_of};
 
-use bl_outside::{NoMemory, Text};
+use bl_outside::{NoMemory, Text, is_utf8};
 use std::alloc::Global;
 
 fn is_letter_or_digit(byte: u8) -> bool
@@ -105,22 +105,12 @@ fn divided(text: &[u8]) -> (&[u8], &[u8])
     }
 }
 
-// The bytes are UTF-8.
-fn is_text(bytes: &[u8]) -> bool
-    ensures { result ≡ is_utf8 bytes.now }
-{
-    match str::from_utf8(bytes) {
-        Ok(_) => true,
-        Err(_) => false,
-    }
-}
-
 // The path, where it is a text.
 fn if_text(path: Text) -> Option<Text>
     ensures path { result ≡ if_text path }
     ensures utf8 { IfSome result IsUtf8 }
 {
-    if is_text(path.as_slice()) {
+    if is_utf8(path.as_slice()) {
         Some(path)
     } else {
         None
@@ -170,7 +160,7 @@ pub fn is_kept_source(source: &[u8]) -> bool
     ensures { result ≡ is_kept_source source.now }
 {
     match source.strip_prefix(b"s3://") {
-        Some(path) => is_text(source) && is_kept_path(path),
+        Some(path) => is_utf8(source) && is_kept_path(path),
         None => false,
     }
 }

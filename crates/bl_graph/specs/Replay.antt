@@ -1,5 +1,5 @@
 -- Single changes, and lists of them, applied to a graph.
-use Rattle.std.specs.Prelude.{◌≡◌, ◌++◌, ℕ, ◌==◌, Bool, true, not, ◌&&◌, if◌then◌else◌, List, [], ◌∷◌, is_none}
+use Rattle.std.specs.Prelude.{◌≡◌, ◌++◌, ℕ, ◌==◌, Bool, true, not, ◌&&◌, if◌then◌else◌, List, [], ◌∷◌, take, is_none}
 use Rattle.std.specs.FinMap as map
 use Rattle.bl_outside.specs.OrderedSet as set
 use Rattle.bl_value.specs.declared.column.Side.{Side}
@@ -34,6 +34,11 @@ after_one graph (RemoveValue side id key value) = with_values_at graph side id k
 abbrev pub after : Graph → List Change → Graph
 after graph [] = graph
 after graph (change ∷ changes) = after (after_one graph change) changes
+
+-- a front of the changes is applied, and the others not
+pub record IsAfterFront (graph : Graph) (changes : List Change) (next : Graph) : Type 0 where
+  pub count : ℕ
+  pub is : next ≡ after graph (take count changes)
 
 -- An edge key has one value at most.
 abbrev pub may_take : Side → Values → Bool

@@ -6,10 +6,10 @@ ghost use Rattle.bl_graph.specs.Sizes.{values_count};
 ghost use Rattle.bl_graph.specs.ValidGraph.{IsValidGraph};
 ghost use Rattle.std.specs.Option.{option_copied, option_map, unwrap_or};
 ghost use Rattle.bl_graph.specs.Graph.{empty, has_owner, has_vertex, labels_of, edge_of, values_at};
-ghost use Rattle.bl_graph.specs.Replay.{after_one, fits, may_take};
+ghost use Rattle.bl_graph.specs.Replay.{IsAfterFront, after, after_one, fits, may_take};
 
 use crate::{Copied, EdgeEnds, Edges, OwnedValues, ValueSet, Vertices};
-use bl_outside::{NoMemory, Text};
+use bl_outside::{List, NoMemory, Text};
 use bl_value::{Change, Side, Value};
 use std::alloc::Global;
 use std::marker::Model;
@@ -194,6 +194,17 @@ impl Graph {
         ensures valid { OnOk result (fits self.old change.now ≡ true → IsValidGraph self.old → IsValidGraph self.new) }
     {
         self.make(change)
+    }
+
+    /// Applies changes from left to right. After want of memory a front of them is applied.
+    pub fn apply_all(&mut self, changes: &List<Change>) -> Result<(), NoMemory>
+        ensures ok { OnOk result (self.new ≡ after self.old changes.now) }
+        ensures err { OnErr result (IsAfterFront self.old changes.now self.new) }
+    {
+        for change in changes.as_slice() {
+            self.apply(change)?;
+        }
+        Ok(())
     }
 
     fn make(&mut self, change: &Change) -> Result<(), NoMemory>

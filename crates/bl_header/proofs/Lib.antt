@@ -1,4 +1,3 @@
-mod Utf8
 mod NameParts
 mod Repeats
 mod FirstFaults

@@ -1,11 +1,10 @@
 // What one field of a header says, once the spaces at its ends are gone.
 ghost use Rattle.std.specs.Prelude.{◌≡◌, ◌≤◌, length, IfOk};
 ghost use Rattle.std.specs.Option.{option_copied};
-ghost use Rattle.std.specs.Str.{is_utf8};
 ghost use Rattle.bl_header.specs.Fields.{begins_with_colon, is_name, is_system, name_of, name_part, plain_text, system_column, type_of, type_part, unescaped};
 
 use crate::type_text::{TypeName, TypeText, type_text};
-use bl_outside::{NoMemory, Text};
+use bl_outside::{NoMemory, Text, is_utf8};
 use bl_value::{ColumnUse, ValueType};
 use std::alloc::Global;
 
@@ -40,15 +39,6 @@ pub(crate) fn is_name(name: &[u8]) -> bool
     ensures { result ≡ is_name name.now }
 {
     !name.is_empty() && name.len() <= 256 && is_utf8(name)
-}
-
-fn is_utf8(bytes: &[u8]) -> bool
-    ensures { result ≡ is_utf8 bytes.now }
-{
-    match str::from_utf8(bytes) {
-        Ok(_) => true,
-        Err(_) => false,
-    }
 }
 
 /// The name of a property, in which `\:` gives a colon.

@@ -3,3 +3,4 @@ pub mod Moments
 mod Kept
 pub mod Names
 mod Stopped
+mod TextTest

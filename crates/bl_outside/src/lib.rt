@@ -7,7 +7,8 @@
 //! may leave of it, at every moment.
 //!
 //! The versions in memory tell all that they hold, and fail at the calls that they were told to.
-//! The small types that every crate uses stand here too: [`Text`], [`List`], [`Digest`], [`NoMemory`].
+//! The small types that every crate uses stand here too: [`Text`], [`List`], [`Digest`], [`NoMemory`],
+//! and [`Steps`], a count of what was done.
 //!
 //! Words of the contracts: `specs/Counts`, `specs/Streams`, `specs/Folders`, `specs/Disks`.
 //! This crate stands on nothing but std.
@@ -28,10 +29,12 @@ mod memory_folder;
 mod memory_sink;
 mod memory_source;
 mod refusals;
+mod steps;
 mod stops;
 mod streams;
 mod text;
 mod text_order;
+mod utf8;
 
 pub use digest::Digest;
 pub use disk::Disk;
@@ -48,9 +51,11 @@ pub use memory_folder::MemoryFolder;
 pub use memory_sink::MemorySink;
 pub use memory_source::MemorySource;
 pub use refusals::{Failed, NoMemory, Outside};
+pub use steps::Steps;
 pub use stops::Fill;
 pub use streams::{Clock, Sink, Source};
 pub use text::Text;
+pub use utf8::is_utf8;
 
 #[cfg(test)]
 mod tests;

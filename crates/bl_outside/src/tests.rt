@@ -5,7 +5,7 @@ ghost use Rattle.std.specs.Str.{IsUtf8};
 use crate::{
     Clock, Digest, Disk, Disks, Failed, Faults, Fill, FixedClock, Folder, List, Listing,
     MemoryDisk, MemoryFolder, MemorySink, MemorySource, NoMemory, Outside, Piece, Sink, Source,
-    Text,
+    Text, is_utf8,
 };
 use std::alloc::Global;
 
@@ -204,4 +204,19 @@ fn a_list_keeps_its_items_in_order(rt: HostRuntime) {
 fn digests_are_compared_by_their_bytes(rt: HostRuntime) {
     let digest = Digest { bytes: [7; 32] };
     assert!(rt; digest == Digest { bytes: [7; 32] } && digest != Digest { bytes: [8; 32] });
+}
+
+#[test]
+fn a_text_is_utf8_without_surrogates_or_long_forms(rt: HostRuntime) {
+    for (bytes, expected) in [
+        (b"".as_slice(), true),
+        (b"a\xC3\xA9".as_slice(), true),
+        (b"\xF4\x8F\xBF\xBF".as_slice(), true),
+        (b"\xC3".as_slice(), false),
+        (b"\xC0\x80".as_slice(), false),
+        (b"\xED\xA0\x80".as_slice(), false),
+        (b"\xF4\x90\x80\x80".as_slice(), false),
+    ] {
+        assert!(rt; is_utf8(bytes) == expected);
+    }
 }

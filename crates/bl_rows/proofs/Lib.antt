@@ -1,7 +1,6 @@
 pub mod CsvRecords
 pub mod Readers
 pub mod RowReaders
-pub mod Utf8
 pub mod Texts
 pub mod TrimmedTexts
 pub mod ItemTexts
@@ -16,3 +15,4 @@ pub mod OneColumn
 pub mod SeenLabels
 pub mod ShortLabels
 pub mod RecordRows
+pub mod RowsLeft

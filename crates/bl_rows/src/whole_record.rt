@@ -4,25 +4,16 @@ ghost use Rattle.std.specs.List.{list_all};
 ghost use Rattle.std.specs.Str.{is_utf8};
 ghost use Rattle.bl_rows.specs.FirstFaults.{are_small, whole_code};
 
-use bl_outside::Text;
+use bl_outside::{Text, is_utf8};
 use bl_value::{Columns, LogCode};
 
 /// The most bytes that the fields of a record may have together.
 const RECORD_LIMIT: usize = 1_048_576;
 
-fn is_text(bytes: &[u8]) -> bool
-    ensures { result ≡ is_utf8 bytes.now }
-{
-    match str::from_utf8(bytes) {
-        Ok(_) => true,
-        Err(_) => false,
-    }
-}
-
 fn are_texts(fields: &[Text]) -> bool
     ensures { result ≡ list_all is_utf8 fields.now }
 {
-    fields.iter().all(|field| is_text(field.as_slice()))
+    fields.iter().all(|field| is_utf8(field.as_slice()))
 }
 
 fn are_small(fields: &[Text]) -> bool

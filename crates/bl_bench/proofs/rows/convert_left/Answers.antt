@@ -1,8 +1,7 @@
-use Rattle.std.proofs.Common.{◌≡◌, ◌+◌, [], List, None, length, sum_by, ap, subst, arith}
+use Rattle.std.proofs.Common.{◌≡◌, ◌+◌, [], None, length, sum_by, ap, subst, arith}
 use Rattle.std.proofs.lemmas.List.Sums.{sum_by-cons}
-use Rattle.bl_rows.specs.Contents.{Fields}
 use Rattle.bl_rows.specs.RowReaders.{GivesRow}
-use Rattle.bl_bench.proofs.Readers.{GaveRow, gave_row, none_left}
+use Rattle.bl_rows.proofs.RowsLeft.{GaveRow, gave_row, none_left}
 use Rattle.bl_bench.proofs.rows.convert_left.Goals as goal
 
 pub returns-in_default-found : goal.returns-in_default-found

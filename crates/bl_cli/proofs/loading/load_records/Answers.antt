@@ -4,7 +4,7 @@ use Rattle.bl_rows.specs.RowReaders.{GivesRow}
 use Rattle.bl_cli.specs.declared.loading.Taken.{Taken}
 use Rattle.bl_cli.specs.Loads.{nothing_taken, take_all}
 use Rattle.bl_cli.specs.Taking.{TakesRecord}
-use Rattle.bl_cli.proofs.Readers.{GaveRow, gave_row, none_left}
+use Rattle.bl_rows.proofs.RowsLeft.{GaveRow, gave_row, none_left}
 use Rattle.bl_cli.proofs.TakenRows.{all_end, all_more}
 use Rattle.bl_cli.proofs.loading.load_records.Goals as goal
 

@@ -1,7 +1,7 @@
 use Rattle.std.proofs.Common.{sym}
 use Rattle.std.proofs.lemmas.Str.{is_utf8-from_IsUtf8}
-use Rattle.bl_header.proofs.Utf8.{not_utf8}
-use Rattle.bl_header.proofs.field.is_utf8.Goals as goal
+use Rattle.bl_outside.proofs.TextTest.{not_utf8}
+use Rattle.bl_outside.proofs.utf8.is_utf8.Goals as goal
 
 pub returns-in-Ok : goal.returns-in-Ok
 returns-in-Ok c = sym (is_utf8-from_IsUtf8 c.args.bytes.now c.in-Ok.ensures.cases.1)
