@@ -12,13 +12,9 @@ use std::alloc::Global;
 fn read_front<const N: usize>(bytes: &[u8]) -> Result<([u8; N], &[u8]), EntryRefusal>
     ensures { Gives (λ x. (x.0, x.1.now)) result (front_at N bytes.now) }
 {
-    if bytes.len() < N {
-        return Err(EntryRefusal::NotAnEntry);
-    }
-    let (front, rest) = bytes.split_at(N);
-    match <[u8; N]>::try_from(front) {
-        Ok(front) => Ok((front, rest)),
-        Err(_) => Err(EntryRefusal::NoMemory),
+    match bytes.split_first_chunk::<N>() {
+        Some((front, rest)) => Ok((*front, rest)),
+        None => Err(EntryRefusal::NotAnEntry),
     }
 }
 
