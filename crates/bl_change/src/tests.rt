@@ -1,6 +1,6 @@
 // Printed records, letter by letter.
 ghost use Rattle.std.specs.Prelude.{IfOk};
-ghost use Rattle.bl_value.specs.Valid.{IsId, IsKey, FitsChange, IsPrintableValue};
+ghost use Rattle.bl_value.specs.Valid.{IsId, IsKey, IsChange, IsPrintableValue};
 
 use crate::{Event, print_event};
 use bl_outside::{NoMemory, Text};
@@ -27,7 +27,7 @@ fn word(alloc: Global, text: &str) -> Result<Text, NoMemory>
 }
 
 fn change(alloc: Global, kind: Kind, words: [&str; 4]) -> Result<Change, NoMemory>
-    ensures { IfOk result FitsChange }
+    ensures { IfOk result IsChange }
 {
     let id = word(alloc, words[0])?;
     let label = word(alloc, words[1])?;

@@ -6,7 +6,7 @@ use Rattle.std.proofs.lemmas.List.{append-nil, nil_from_length}
 use Rattle.bl_outside.specs.declared.digest.Digest.{Digest}
 use Rattle.bl_value.specs.declared.log_code.LogCode.{LogCode}
 use Rattle.bl_value.specs.declared.change.Change.{Change}
-use Rattle.bl_value.specs.Valid.{IsShortText, FitsChange}
+use Rattle.bl_value.specs.Valid.{IsShortText, IsChange}
 use Rattle.bl_files.specs.Sources.{is_kept_source}
 use Rattle.bl_files.specs.declared.log.Log.{Log}
 use Rattle.bl_files.specs.declared.feed_kind.FeedKind.{FeedKind}
@@ -176,7 +176,7 @@ abbrev made_batch : BatchParts → Entry
 made_batch x = Batch x.0 x.1.0 x.1.1.0 x.1.1.1.0 x.1.1.1.1.0 x.1.1.1.1.1.0 x.1.1.1.1.1.1.0 x.1.1.1.1.1.1.1.0 x.1.1.1.1.1.1.1.1
 
 batch : Parses (λ (x : BatchParts). u64_bytes x.0 ++ (u32_bytes x.1.0 ++ (u32_bytes x.1.1.0 ++ (u64_bytes x.1.1.1.0 ++ (u32_bytes x.1.1.1.1.0 ++ (digest_bytes x.1.1.1.1.1.0 ++ (u32_bytes x.1.1.1.1.1.1.0 ++ (list_bytes log_bytes x.1.1.1.1.1.1.1.0 ++ list_bytes change_bytes x.1.1.1.1.1.1.1.1))))))))
-    (λ x. (x.0 < 2 ^ 64) × ((x.1.0 < 2 ^ 32) × ((x.1.1.0 < 2 ^ 32) × ((x.1.1.1.0 < 2 ^ 64) × ((x.1.1.1.1.0 < 2 ^ 32) × (IsDigest x.1.1.1.1.1.0 × ((x.1.1.1.1.1.1.0 < 2 ^ 32) × (IsList IsLog x.1.1.1.1.1.1.1.0 × IsList FitsChange x.1.1.1.1.1.1.1.1))))))))
+    (λ x. (x.0 < 2 ^ 64) × ((x.1.0 < 2 ^ 32) × ((x.1.1.0 < 2 ^ 32) × ((x.1.1.1.0 < 2 ^ 64) × ((x.1.1.1.1.0 < 2 ^ 32) × (IsDigest x.1.1.1.1.1.0 × ((x.1.1.1.1.1.1.0 < 2 ^ 32) × (IsList IsLog x.1.1.1.1.1.1.1.0 × IsList IsChange x.1.1.1.1.1.1.1.1))))))))
     (both_at (number_at w64) (both_at (number_at w32) (both_at (number_at w32) (both_at (number_at w64) (both_at (number_at w32) (both_at digest_at (both_at (number_at w32) (both_at (list_at log_at) (list_at change_at)))))))))
 batch = both_parses u64_parses (both_parses u32_parses (both_parses u32_parses (both_parses u64_parses (both_parses u32_parses (both_parses digest_parses (both_parses u32_parses (both_parses (list_parses log_parses wide32) (list_parses change_parses wide32))))))))
 

@@ -16,7 +16,7 @@ use Rattle.bl_value.specs.declared.value.Value.{Value}
 use Rattle.bl_value.specs.declared.value.Value.TheVariants as value
 use Rattle.bl_value.specs.declared.change.Change.{Change}
 use Rattle.bl_value.specs.declared.change.Change.TheVariants.{AddLabel, AddEdge, AddValue, RemoveValue}
-use Rattle.bl_value.specs.Valid.{IsId, IsKey, IsShortText, IsDate, FitsValue, FitsChange}
+use Rattle.bl_value.specs.Valid.{IsId, IsKey, IsShortText, IsDate, IsValue, IsChange}
 use Rattle.bl_files.specs.declared.log.Log.{Log}
 use Rattle.bl_entry.specs.Encoding.{text_bytes, truth_bytes, digest_bytes, code_number, code_bytes, log_bytes, side_bytes, value_bytes, change_bytes}
 use Rattle.bl_entry.specs.Valid.{IsDigest, IsLog}
@@ -183,36 +183,36 @@ is_date_of (negsuc n) h = le-leb _ _ (omega (arith, ints))
 date_fits : (n : ℤ) → IsDate n → FitsSigned w64 n
 date_fits n h = omega (arith, ints)
 
-pub value_parses : Parses value_bytes FitsValue value_at
+pub value_parses : Parses value_bytes IsValue value_at
 unfolding value_at
 value_parses = record { takes = takes; again = again }
   where
     date : Parses (λ z. to_be_bytes w64 (cast_unsigned w64 z)) IsDate (tested_at is_date (signed_at w64))
     date = valid_parses IsDate (λ n h. date_is n h.1) (λ n h. (date_fits n h, is_date_of n h)) (tested_parses is_date (signed_parses w64 wide64))
 
-    takes : (bytes : List ℕ) (x : Value) (rest : List ℕ) → IsBytes bytes → value_at bytes ≡ Some (x, rest) → Takes bytes (value_bytes x) rest × FitsValue x
+    takes : (bytes : List ℕ) (x : Value) (rest : List ℕ) → IsBytes bytes → value_at bytes ≡ Some (x, rest) → Takes bytes (value_bytes x) rest × IsValue x
     takes [] x rest fits e = absurd cc
     takes (zero ∷ bytes) x rest fits e = absurd cc
-    takes (suc zero ∷ bytes) x rest fits e = tagged_takes value.Bool value_bytes FitsValue 1 truth_parses (λ y. refl) (λ y h. h) bytes x rest fits e
-    takes (suc (suc zero) ∷ bytes) x rest fits e = tagged_takes value.Byte value_bytes FitsValue 2 (signed_parses w8 wide8) (λ y. refl) (λ y h. h) bytes x rest fits e
-    takes (suc (suc (suc zero)) ∷ bytes) x rest fits e = tagged_takes value.Short value_bytes FitsValue 3 (signed_parses w16 wide16) (λ y. refl) (λ y h. h) bytes x rest fits e
-    takes (suc (suc (suc (suc zero))) ∷ bytes) x rest fits e = tagged_takes value.Int value_bytes FitsValue 4 (signed_parses w32 wide32) (λ y. refl) (λ y h. h) bytes x rest fits e
-    takes (suc (suc (suc (suc (suc zero)))) ∷ bytes) x rest fits e = tagged_takes value.Long value_bytes FitsValue 5 (signed_parses w64 wide64) (λ y. refl) (λ y h. h) bytes x rest fits e
-    takes (suc (suc (suc (suc (suc (suc zero))))) ∷ bytes) x rest fits e = tagged_takes value.Str value_bytes FitsValue 6 text_parses (λ y. refl) (λ y h. h) bytes x rest fits e
-    takes (suc (suc (suc (suc (suc (suc (suc zero)))))) ∷ bytes) x rest fits e = tagged_takes value.Date value_bytes FitsValue 7 date (λ y. refl) (λ y h. h) bytes x rest fits e
+    takes (suc zero ∷ bytes) x rest fits e = tagged_takes value.Bool value_bytes IsValue 1 truth_parses (λ y. refl) (λ y h. h) bytes x rest fits e
+    takes (suc (suc zero) ∷ bytes) x rest fits e = tagged_takes value.Byte value_bytes IsValue 2 (signed_parses w8 wide8) (λ y. refl) (λ y h. h) bytes x rest fits e
+    takes (suc (suc (suc zero)) ∷ bytes) x rest fits e = tagged_takes value.Short value_bytes IsValue 3 (signed_parses w16 wide16) (λ y. refl) (λ y h. h) bytes x rest fits e
+    takes (suc (suc (suc (suc zero))) ∷ bytes) x rest fits e = tagged_takes value.Int value_bytes IsValue 4 (signed_parses w32 wide32) (λ y. refl) (λ y h. h) bytes x rest fits e
+    takes (suc (suc (suc (suc (suc zero)))) ∷ bytes) x rest fits e = tagged_takes value.Long value_bytes IsValue 5 (signed_parses w64 wide64) (λ y. refl) (λ y h. h) bytes x rest fits e
+    takes (suc (suc (suc (suc (suc (suc zero))))) ∷ bytes) x rest fits e = tagged_takes value.Str value_bytes IsValue 6 text_parses (λ y. refl) (λ y h. h) bytes x rest fits e
+    takes (suc (suc (suc (suc (suc (suc (suc zero)))))) ∷ bytes) x rest fits e = tagged_takes value.Date value_bytes IsValue 7 date (λ y. refl) (λ y h. h) bytes x rest fits e
     takes (suc (suc (suc (suc (suc (suc (suc (suc b))))))) ∷ bytes) x rest fits e = absurd cc
 
-    again : (x : Value) (rest : List ℕ) → FitsValue x → value_at (value_bytes x ++ rest) ≡ Some (x, rest)
-    again (value.Bool b) rest valid = tagged_again value.Bool value_bytes FitsValue 1 truth_parses b rest valid
-    again (value.Byte n) rest valid = tagged_again value.Byte value_bytes FitsValue 2 (signed_parses w8 wide8) n rest valid
-    again (value.Short n) rest valid = tagged_again value.Short value_bytes FitsValue 3 (signed_parses w16 wide16) n rest valid
-    again (value.Int n) rest valid = tagged_again value.Int value_bytes FitsValue 4 (signed_parses w32 wide32) n rest valid
-    again (value.Long n) rest valid = tagged_again value.Long value_bytes FitsValue 5 (signed_parses w64 wide64) n rest valid
-    again (value.Str text) rest valid = tagged_again value.Str value_bytes FitsValue 6 text_parses text rest valid
-    again (value.Date n) rest valid = tagged_again value.Date value_bytes FitsValue 7 date n rest valid
+    again : (x : Value) (rest : List ℕ) → IsValue x → value_at (value_bytes x ++ rest) ≡ Some (x, rest)
+    again (value.Bool b) rest valid = tagged_again value.Bool value_bytes IsValue 1 truth_parses b rest valid
+    again (value.Byte n) rest valid = tagged_again value.Byte value_bytes IsValue 2 (signed_parses w8 wide8) n rest valid
+    again (value.Short n) rest valid = tagged_again value.Short value_bytes IsValue 3 (signed_parses w16 wide16) n rest valid
+    again (value.Int n) rest valid = tagged_again value.Int value_bytes IsValue 4 (signed_parses w32 wide32) n rest valid
+    again (value.Long n) rest valid = tagged_again value.Long value_bytes IsValue 5 (signed_parses w64 wide64) n rest valid
+    again (value.Str text) rest valid = tagged_again value.Str value_bytes IsValue 6 text_parses text rest valid
+    again (value.Date n) rest valid = tagged_again value.Date value_bytes IsValue 7 date n rest valid
 
 abbrev IsProperty : Side × (List ℕ × (List ℕ × Value)) → Type 0
-IsProperty x = Unit {0} × (IsId x.1.0 × (IsKey x.1.1.0 × FitsValue x.1.1.1))
+IsProperty x = Unit {0} × (IsId x.1.0 × (IsKey x.1.1.0 × IsValue x.1.1.1))
 
 abbrev property_bytes : Side × (List ℕ × (List ℕ × Value)) → List ℕ
 property_bytes x = side_bytes x.0 ++ (text_bytes x.1.0 ++ (text_bytes x.1.1.0 ++ value_bytes x.1.1.1))
@@ -221,7 +221,7 @@ property_parses : Parses property_bytes IsProperty property_at
 unfolding property_at
 property_parses = both_parses side_parses (both_parses id_parses (both_parses key_parses value_parses))
 
-pub change_parses : Parses change_bytes FitsChange change_at
+pub change_parses : Parses change_bytes IsChange change_at
 unfolding change_at
 change_parses = record { takes = takes; again = again }
   where
@@ -231,17 +231,17 @@ change_parses = record { takes = takes; again = again }
     edge : Parses (λ (x : List ℕ × (List ℕ × (List ℕ × List ℕ))). text_bytes x.0 ++ (text_bytes x.1.0 ++ (text_bytes x.1.1.0 ++ text_bytes x.1.1.1))) (λ x. IsId x.0 × (IsId x.1.0 × (IsId x.1.1.0 × IsId x.1.1.1))) (both_at (short_at 1024) (both_at (short_at 1024) (both_at (short_at 1024) (short_at 1024))))
     edge = both_parses id_parses (both_parses id_parses (both_parses id_parses id_parses))
 
-    takes : (bytes : List ℕ) (x : Change) (rest : List ℕ) → IsBytes bytes → change_at bytes ≡ Some (x, rest) → Takes bytes (change_bytes x) rest × FitsChange x
+    takes : (bytes : List ℕ) (x : Change) (rest : List ℕ) → IsBytes bytes → change_at bytes ≡ Some (x, rest) → Takes bytes (change_bytes x) rest × IsChange x
     takes [] x rest fits e = absurd cc
     takes (zero ∷ bytes) x rest fits e = absurd cc
-    takes (suc zero ∷ bytes) x rest fits e = tagged_takes (λ x. AddLabel x.0 x.1) change_bytes FitsChange 1 label (λ y. refl) (λ y h. h) bytes x rest fits e
-    takes (suc (suc zero) ∷ bytes) x rest fits e = tagged_takes (λ x. AddEdge x.0 x.1.0 x.1.1.0 x.1.1.1) change_bytes FitsChange 2 edge (λ y. refl) (λ y h. h) bytes x rest fits e
-    takes (suc (suc (suc zero)) ∷ bytes) x rest fits e = tagged_takes (λ x. AddValue x.0 x.1.0 x.1.1.0 x.1.1.1) change_bytes FitsChange 3 property_parses (λ y. refl) (λ y h. h.1) bytes x rest fits e
-    takes (suc (suc (suc (suc zero))) ∷ bytes) x rest fits e = tagged_takes (λ x. RemoveValue x.0 x.1.0 x.1.1.0 x.1.1.1) change_bytes FitsChange 4 property_parses (λ y. refl) (λ y h. h.1) bytes x rest fits e
+    takes (suc zero ∷ bytes) x rest fits e = tagged_takes (λ x. AddLabel x.0 x.1) change_bytes IsChange 1 label (λ y. refl) (λ y h. h) bytes x rest fits e
+    takes (suc (suc zero) ∷ bytes) x rest fits e = tagged_takes (λ x. AddEdge x.0 x.1.0 x.1.1.0 x.1.1.1) change_bytes IsChange 2 edge (λ y. refl) (λ y h. h) bytes x rest fits e
+    takes (suc (suc (suc zero)) ∷ bytes) x rest fits e = tagged_takes (λ x. AddValue x.0 x.1.0 x.1.1.0 x.1.1.1) change_bytes IsChange 3 property_parses (λ y. refl) (λ y h. h.1) bytes x rest fits e
+    takes (suc (suc (suc (suc zero))) ∷ bytes) x rest fits e = tagged_takes (λ x. RemoveValue x.0 x.1.0 x.1.1.0 x.1.1.1) change_bytes IsChange 4 property_parses (λ y. refl) (λ y h. h.1) bytes x rest fits e
     takes (suc (suc (suc (suc (suc b)))) ∷ bytes) x rest fits e = absurd cc
 
-    again : (x : Change) (rest : List ℕ) → FitsChange x → change_at (change_bytes x ++ rest) ≡ Some (x, rest)
-    again (AddLabel id name) rest valid = tagged_again (λ x. AddLabel x.0 x.1) change_bytes FitsChange 1 label (id, name) rest valid
-    again (AddEdge id name from to) rest valid = tagged_again (λ x. AddEdge x.0 x.1.0 x.1.1.0 x.1.1.1) change_bytes FitsChange 2 edge (id, (name, (from, to))) rest valid
-    again (AddValue s id key v) rest valid = tagged_again (λ x. AddValue x.0 x.1.0 x.1.1.0 x.1.1.1) change_bytes FitsChange 3 property_parses (s, (id, (key, v))) rest (tt, valid)
-    again (RemoveValue s id key v) rest valid = tagged_again (λ x. RemoveValue x.0 x.1.0 x.1.1.0 x.1.1.1) change_bytes FitsChange 4 property_parses (s, (id, (key, v))) rest (tt, valid)
+    again : (x : Change) (rest : List ℕ) → IsChange x → change_at (change_bytes x ++ rest) ≡ Some (x, rest)
+    again (AddLabel id name) rest valid = tagged_again (λ x. AddLabel x.0 x.1) change_bytes IsChange 1 label (id, name) rest valid
+    again (AddEdge id name from to) rest valid = tagged_again (λ x. AddEdge x.0 x.1.0 x.1.1.0 x.1.1.1) change_bytes IsChange 2 edge (id, (name, (from, to))) rest valid
+    again (AddValue s id key v) rest valid = tagged_again (λ x. AddValue x.0 x.1.0 x.1.1.0 x.1.1.1) change_bytes IsChange 3 property_parses (s, (id, (key, v))) rest (tt, valid)
+    again (RemoveValue s id key v) rest valid = tagged_again (λ x. RemoveValue x.0 x.1.0 x.1.1.0 x.1.1.1) change_bytes IsChange 4 property_parses (s, (id, (key, v))) rest (tt, valid)

@@ -2,7 +2,7 @@
 use Rattle.std.specs.Prelude.{◌≡◌, ◌<◌, ◌^◌, true, List, length}
 use Rattle.std.specs.List.{All}
 use Rattle.bl_outside.specs.declared.digest.Digest.{Digest}
-use Rattle.bl_value.specs.Valid.{IsShortText, FitsChange}
+use Rattle.bl_value.specs.Valid.{IsShortText, IsChange}
 use Rattle.bl_files.specs.Sources.{is_kept_source}
 use Rattle.bl_files.specs.declared.log.Log.{Log}
 use Rattle.bl_files.specs.declared.feed_kind.FeedKind.{FeedKind}
@@ -57,5 +57,5 @@ IsEntry (Submit moment job id request) = (moment < 2 ^ 64) × ((job < 2 ^ 32) ×
 IsEntry (Cancel moment job) = (moment < 2 ^ 64) × (job < 2 ^ 32)
 IsEntry (Start moment job planned) = (moment < 2 ^ 64) × ((job < 2 ^ 32) × IsPlan planned)
 IsEntry (Batch moment job feed from rows digest duplicates logs changes) =
-    (moment < 2 ^ 64) × ((job < 2 ^ 32) × ((feed < 2 ^ 32) × ((from < 2 ^ 64) × ((rows < 2 ^ 32) × (IsDigest digest × ((duplicates < 2 ^ 32) × (IsList IsLog logs × IsList FitsChange changes)))))))
+    (moment < 2 ^ 64) × ((job < 2 ^ 32) × ((feed < 2 ^ 32) × ((from < 2 ^ 64) × ((rows < 2 ^ 32) × (IsDigest digest × ((duplicates < 2 ^ 32) × (IsList IsLog logs × IsList IsChange changes)))))))
 IsEntry (End moment job feed how) = (moment < 2 ^ 64) × ((job < 2 ^ 32) × ((feed < 2 ^ 32) × IsEnd how))

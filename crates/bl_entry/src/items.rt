@@ -2,7 +2,7 @@
 ghost use Rattle.std.specs.Prelude.{◌<◌, ◌^◌};
 ghost use Rattle.bl_entry.specs.Encoding.{change_bytes, found_bytes, log_bytes, u128_bytes};
 ghost use Rattle.bl_entry.specs.Reading.{change_at, found_at, log_at, long_at};
-ghost use Rattle.bl_value.specs.Valid.{FitsChange};
+ghost use Rattle.bl_value.specs.Valid.{IsChange};
 ghost use Rattle.bl_entry.specs.Valid.{IsFound, IsLog};
 
 use crate::EntryRefusal;
@@ -35,7 +35,7 @@ impl Part for Log {
 impl Part for Change {
     ghost bytes = { change_bytes };
 
-    ghost valid = { FitsChange };
+    ghost valid = { IsChange };
 
     ghost at = { change_at };
 

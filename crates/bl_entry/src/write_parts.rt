@@ -1,7 +1,7 @@
 // The parts of an entry, written at the end of a text.
 ghost use Rattle.std.specs.Prelude.{◌≡◌, ◌++◌, ◌<◌, ◌^◌, length, OnOk};
 ghost use Rattle.bl_entry.specs.Encoding.{change_bytes, code_bytes, end_bytes, found_bytes, kind_bytes, log_bytes, mode_bytes, plan_bytes, request_bytes, side_bytes, text_bytes, truth_bytes, u128_bytes, u32_bytes, u64_bytes, value_bytes};
-ghost use Rattle.bl_value.specs.Valid.{FitsChange, FitsValue};
+ghost use Rattle.bl_value.specs.Valid.{IsChange, IsValue};
 ghost use Rattle.bl_entry.specs.Valid.{IsEnd, IsFound, IsKind, IsLog, IsPlan, IsRequest};
 
 use crate::code_number;
@@ -71,7 +71,7 @@ fn write_side(out: &mut Text, side: Side) -> Result<(), NoMemory>
 
 #[tactic(auto, using(crate::proofs::Appends::joined))]
 fn write_value(out: &mut Text, value: &Value) -> Result<(), NoMemory>
-    requires { FitsValue value.now }
+    requires { IsValue value.now }
     ensures { OnOk result (out.new ≡ out.old ++ value_bytes value.now) }
 {
     match value {
@@ -108,7 +108,7 @@ fn write_value(out: &mut Text, value: &Value) -> Result<(), NoMemory>
 
 #[tactic(auto, using(crate::proofs::Appends::joined))]
 pub fn write_change(out: &mut Text, change: &Change) -> Result<(), NoMemory>
-    requires { FitsChange change.now }
+    requires { IsChange change.now }
     ensures { OnOk result (out.new ≡ out.old ++ change_bytes change.now) }
 {
     match change {
@@ -160,7 +160,7 @@ fn write_property(
 ) -> Result<(), NoMemory>
     requires id { length id.now < 2 ^ 32 }
     requires key { length key.now < 2 ^ 32 }
-    requires value { FitsValue value.now }
+    requires value { IsValue value.now }
     ensures { OnOk result (out.new ≡ out.old ++ (side_bytes side ++ (text_bytes id.now ++ (text_bytes key.now ++ value_bytes value.now)))) }
 {
     write_side(out, side)?;

@@ -28,33 +28,21 @@ pub record IsShortText (text : List ℕ) : Type 0 where
 abbrev pub IsDate : ℤ → Type 0
 IsDate seconds = (negsuc 62167219199 ≤ℤ seconds) × (seconds ≤ℤ pos 253402300799)
 
--- a value with a text or a date that is valid
+-- a value in the range of its type
 abbrev pub IsValue : Value → Type 0
+IsValue (Bool b) = Unit {0}
+IsValue (Byte n) = FitsSigned w8 n
+IsValue (Short n) = FitsSigned w16 n
+IsValue (Int n) = FitsSigned w32 n
+IsValue (Long n) = FitsSigned w64 n
 IsValue (Str text) = IsShortText text
 IsValue (Date seconds) = IsDate seconds
-IsValue (Bool b) = Unit {0}
-IsValue (Byte n) = Unit {0}
-IsValue (Short n) = Unit {0}
-IsValue (Int n) = Unit {0}
-IsValue (Long n) = Unit {0}
 
--- A value in the range of its type. The program's integers are so by their types; where a value is
--- read from a text or from bytes, this says which ones there are.
-abbrev pub FitsValue : Value → Type 0
-FitsValue (Bool b) = Unit {0}
-FitsValue (Byte n) = FitsSigned w8 n
-FitsValue (Short n) = FitsSigned w16 n
-FitsValue (Int n) = FitsSigned w32 n
-FitsValue (Long n) = FitsSigned w64 n
-FitsValue (Str text) = IsShortText text
-FitsValue (Date seconds) = IsDate seconds
-
--- a valid change whose value is in the range of its type
-abbrev pub FitsChange : Change → Type 0
-FitsChange (AddLabel id label) = IsId id × IsId label
-FitsChange (AddEdge id label from to) = IsId id × (IsId label × (IsId from × IsId to))
-FitsChange (AddValue side id key value) = IsId id × (IsKey key × FitsValue value)
-FitsChange (RemoveValue side id key value) = IsId id × (IsKey key × FitsValue value)
+abbrev pub IsChange : Change → Type 0
+IsChange (AddLabel id label) = IsId id × IsId label
+IsChange (AddEdge id label from to) = IsId id × (IsId label × (IsId from × IsId to))
+IsChange (AddValue side id key value) = IsId id × (IsKey key × IsValue value)
+IsChange (RemoveValue side id key value) = IsId id × (IsKey key × IsValue value)
 
 -- What can be printed: texts in UTF-8 and dates in their range, of whatever length. All that is valid can.
 abbrev pub IsPrintableValue : Value → Type 0

@@ -3,13 +3,15 @@ ghost use Rattle.std.specs.Prelude.{◌≡◌, ◌==◌, ◌&&◌, not, true, fa
 ghost use Rattle.std.specs.Char.{is_ascii_digit};
 ghost use Rattle.std.specs.List.{list_all};
 ghost use Rattle.bl_value.specs.Cells.{integer, is_integer};
+ghost use Rattle.bl_value.specs.Valid.{IsValue};
 ghost use Rattle.bl_value.specs.declared.cell.CellRefusal.TheVariants.{NotOfType};
 ghost use Rattle.bl_value.specs.declared.value.Value.TheVariants.{Byte, Short, Int, Long};
 
 use crate::{CellRefusal, Value};
 
 pub(crate) fn read_byte(text: &[u8]) -> Result<Value, CellRefusal>
-    ensures { result ≡ integer 8 Byte text.now }
+    ensures value { result ≡ integer 8 Byte text.now }
+    ensures valid { IfOk result IsValue }
 {
     match integer_text(text)?.parse::<i8>() {
         Ok(number) => Ok(Value::Byte(number)),
@@ -18,7 +20,8 @@ pub(crate) fn read_byte(text: &[u8]) -> Result<Value, CellRefusal>
 }
 
 pub(crate) fn read_short(text: &[u8]) -> Result<Value, CellRefusal>
-    ensures { result ≡ integer 16 Short text.now }
+    ensures value { result ≡ integer 16 Short text.now }
+    ensures valid { IfOk result IsValue }
 {
     match integer_text(text)?.parse::<i16>() {
         Ok(number) => Ok(Value::Short(number)),
@@ -27,7 +30,8 @@ pub(crate) fn read_short(text: &[u8]) -> Result<Value, CellRefusal>
 }
 
 pub(crate) fn read_int(text: &[u8]) -> Result<Value, CellRefusal>
-    ensures { result ≡ integer 32 Int text.now }
+    ensures value { result ≡ integer 32 Int text.now }
+    ensures valid { IfOk result IsValue }
 {
     match integer_text(text)?.parse::<i32>() {
         Ok(number) => Ok(Value::Int(number)),
@@ -36,7 +40,8 @@ pub(crate) fn read_int(text: &[u8]) -> Result<Value, CellRefusal>
 }
 
 pub(crate) fn read_long(text: &[u8]) -> Result<Value, CellRefusal>
-    ensures { result ≡ integer 64 Long text.now }
+    ensures value { result ≡ integer 64 Long text.now }
+    ensures valid { IfOk result IsValue }
 {
     match integer_text(text)?.parse::<i64>() {
         Ok(number) => Ok(Value::Long(number)),
