@@ -22,11 +22,12 @@ use Rattle.bl_value.specs.declared.log_code.LogCode.{LogCode}
 use Rattle.bl_value.specs.declared.row.Property.{Property}
 use Rattle.bl_value.specs.declared.row.Row.{Row}
 use Rattle.bl_value.specs.declared.row.Row.TheVariants.{Vertex as vertex_row, Edge as edge_row, Bad}
+use Rattle.bl_value.specs.ValidRows.{AreApart}
 use Rattle.bl_graph.specs.declared.verdict.Verdict.{Verdict}
 use Rattle.bl_graph.specs.Graph.{Graph, Values, Texts, Ends, has_vertex, labels_of, edge_of, values_at, has_owner}
 use Rattle.bl_graph.specs.Replay.{after_one, after, fits, fit}
 use Rattle.bl_graph.specs.Admission.{is_among, replaced, added, property_changes, label_changes, edge_changes, edge_refusal, changed, unless_conflict, unless_refused, conflict, admit}
-use Rattle.bl_graph.specs.Admitted.{AreApart, IsProper, AreProper, IsProperRow, DoesFit}
+use Rattle.bl_graph.specs.Admitted.{IsProper, AreProper, IsProperRow, DoesFit}
 use Rattle.bl_graph.proofs.Maps.{itself}
 use Rattle.bl_graph.proofs.ValueOrder.{value_cmp_total}
 use Rattle.bl_graph.proofs.Replayed.{after-append}

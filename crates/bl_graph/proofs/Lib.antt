@@ -4,6 +4,7 @@ mod Maps
 mod Conflicts
 mod Lenses
 mod Apart
+mod Sets
 mod Fitting
 mod FittingRows
 pub mod Admitted

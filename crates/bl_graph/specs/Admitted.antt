@@ -1,8 +1,7 @@
 -- What is promised of the changes of a row.
-use Rattle.std.specs.Prelude.{◌≡◌, ℕ, true, nat_eq, List, map, length, Some}
+use Rattle.std.specs.Prelude.{◌≡◌, ℕ, true, List, map, length, Some}
 use Rattle.std.specs.List.{All, IsDistinct}
 use Rattle.std.specs.Ordering.{eq_by_cmp}
-use Rattle.std.specs.Cmp.Lexicographic.{pointwise}
 use Rattle.bl_outside.specs.OrderedSet as set
 use Rattle.bl_value.specs.Order.{value_cmp}
 use Rattle.bl_value.specs.declared.value.Value.{Value}
@@ -11,15 +10,12 @@ use Rattle.bl_value.specs.declared.column.Side.TheVariants.{Vertex, Edge}
 use Rattle.bl_value.specs.declared.row.Property.{Property}
 use Rattle.bl_value.specs.declared.row.Row.{Row}
 use Rattle.bl_value.specs.declared.row.Row.TheVariants.{Vertex as vertex_row, Edge as edge_row, Bad}
+use Rattle.bl_value.specs.ValidRows.{AreApart}
 use Rattle.bl_graph.specs.declared.verdict.Verdict.{Verdict}
 use Rattle.bl_graph.specs.declared.verdict.Verdict.TheVariants.{Changes, Duplicate, Refused}
 use Rattle.bl_graph.specs.Graph.{Graph, has_vertex, labels_of, edge_of, values_at}
 use Rattle.bl_graph.specs.Admission.{is_among}
 use Rattle.bl_graph.specs.Replay.{fit}
-
--- no text stands there twice
-abbrev pub AreApart : List (List ℕ) → Type 0
-AreApart texts = IsDistinct (pointwise nat_eq) texts
 
 -- no value stands there twice, and a single property has just one
 pub record IsProper (property : Property) : Type 0 where

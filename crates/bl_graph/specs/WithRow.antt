@@ -40,14 +40,14 @@ pub record TakesProperties (graph : Graph) (side : Side) (id : List ℕ) (proper
 pub record TakesVertex (graph : Graph) (id : List ℕ) (labels : List (List ℕ)) (properties : List Property) (next : Graph) : Type 0 where
   pub there : has_vertex next id ≡ true
   pub labelled : (label : List ℕ) → set.contains (labels_of next id) label ≡ (set.contains (labels_of graph id) label || is_one_of (given_labels graph id labels) label)
-  pub properties : TakesProperties graph Vertex id properties next
+  pub values : TakesProperties graph Vertex id properties next
   pub others : (other : List ℕ) → (other ≡ id → ⊥) → map.get next.labels other ≡ map.get graph.labels other
   pub edges : next.edges ≡ graph.edges
 
 -- The edge is there, with its label and its ends. All else stays.
 pub record TakesEdge (graph : Graph) (id label from to : List ℕ) (properties : List Property) (next : Graph) : Type 0 where
   pub there : edge_of next id ≡ Some (record { label = label; from = from; to = to })
-  pub properties : TakesProperties graph Edge id properties next
+  pub values : TakesProperties graph Edge id properties next
   pub others : (other : List ℕ) → (other ≡ id → ⊥) → edge_of next other ≡ edge_of graph other
   pub vertices : next.labels ≡ graph.labels
 
