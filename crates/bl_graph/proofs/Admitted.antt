@@ -37,7 +37,7 @@ module _ (id : List ℕ) where
   abbrev pub labelled : List (List ℕ) → List Change
   labelled labels = each (λ label. AddLabel id label) labels
 
-  labels_with : (graph : Graph) (label : List ℕ) → labels_of (after_one graph (AddLabel id label)) id ≡ set.insert (labels_of graph id) label
+  pub labels_with : (graph : Graph) (label : List ℕ) → labels_of (after_one graph (AddLabel id label)) id ≡ set.insert (labels_of graph id) label
   labels_with graph label =
       ap (λ (o : Option Texts). unwrap_or o set.empty)
       (map.get-insert nat_list_cmp_total graph.labels id (set.insert (labels_of graph id) label) id ∙ ap (λ b. cond b (Some (set.insert (labels_of graph id) label)) (map.get graph.labels id)) (itself nat_list_cmp_total id))

@@ -38,7 +38,7 @@ pub none_apart : {K : Type 0} (e : K → K → Bool) → IsDistinct e []
 unfolding IsDistinct
 none_apart e = tt
 
-by_order : (a b : List ℕ) → pointwise nat_eq a b ≡ false → eq_by_cmp (slice_cmp nat_cmp) a b ≡ false
+pub by_order : (a b : List ℕ) → pointwise nat_eq a b ≡ false → eq_by_cmp (slice_cmp nat_cmp) a b ≡ false
 by_order a b h = sym (texts_ties a b) ∙ h
 
 pub apart_by_order : (texts : List (List ℕ)) → AreApart texts → IsDistinct (eq_by_cmp (slice_cmp nat_cmp)) texts
@@ -48,7 +48,7 @@ pub by_recursion : {X : Type 0} (P : X → Type 0) (xs : List X) → All P xs �
 by_recursion P [] h = tt
 by_recursion P (x ∷ xs) h = (All-head P x xs h, by_recursion P xs (All-tail P x xs h))
 
-all_each : {X Y : Type 0} (f : X → Y) (P : Y → Type 0) (xs : List X) → AllByRecursion P (each f xs) → AllByRecursion (λ x. P (f x)) xs
+pub all_each : {X Y : Type 0} (f : X → Y) (P : Y → Type 0) (xs : List X) → AllByRecursion P (each f xs) → AllByRecursion (λ x. P (f x)) xs
 all_each f P [] h = tt
 all_each f P (x ∷ xs) h = (h.0, all_each f P xs h.1)
 
@@ -131,7 +131,7 @@ module _ (graph : Graph) (side : Side) (id : List ℕ) where
       ∙ owner_after_additions side id property.key (after now (removals side id property.key (replaced graph side id property))) (added graph side id property)
       ∙ owner_after_removals side id property.key now (replaced graph side id property)
 
-  elsewhere_later : (now : Graph) (property : Property) (other : List ℕ) → eq_by_cmp (slice_cmp nat_cmp) other property.key ≡ false → values_at (after now (property_changes graph side id property)) side id other ≡ values_at now side id other
+  pub elsewhere_later : (now : Graph) (property : Property) (other : List ℕ) → eq_by_cmp (slice_cmp nat_cmp) other property.key ≡ false → values_at (after now (property_changes graph side id property)) side id other ≡ values_at now side id other
   elsewhere_later now property other differs =
       ap (λ g. values_at g side id other) (after-append now (removals side id property.key (replaced graph side id property)) (additions side id property.key (added graph side id property)))
       ∙ additions_apart side id property.key other differs (after now (removals side id property.key (replaced graph side id property))) (added graph side id property)

@@ -10,3 +10,4 @@ mod FittingRows
 pub mod Admitted
 pub mod Duplicates
 pub mod Validity
+pub mod Taken

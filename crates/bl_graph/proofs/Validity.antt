@@ -29,7 +29,7 @@ use Rattle.bl_graph.proofs.Fitting.{fits_first, fits_later}
 not_none : (n : ℕ) → (n == 0) ≡ false → n ≢ 0
 not_none n h = λ e. false≢true (sym h ∙ eq-eqb n 0 e)
 
-same_key : (a b : List ℕ) → eq_by_cmp (slice_cmp nat_cmp) a b ≡ true → a ≡ b
+pub same_key : (a b : List ℕ) → eq_by_cmp (slice_cmp nat_cmp) a b ≡ true → a ≡ b
 same_key a b h = exact_bytes a b ((Equal-is (slice_cmp nat_cmp a b)).0 h)
 
 module _ {X : Type 0} (P : X → Type 0) where
@@ -81,7 +81,7 @@ full_stays all id key s full q =
       each = λ key2. stash_all_hold (λ values. set.len values ≢ 0) (keys_in all id) key s (set.len s == 0) key2 (λ h. not_none (set.len s) h) (keys_full (map.get all id) (full id) key2);
     }) (full q)
 
-value_case : (graph : Graph) (side : Side) (id key : List ℕ) (s : Values) (side2 : Side) (id2 key2 : List ℕ) (Q : Values → Type 0) → (side2 ≡ side → id2 ≡ id → key2 ≡ key → Q s) → Q (values_at graph side2 id2 key2) → Q (values_at (with_values_at graph side id key s) side2 id2 key2)
+pub value_case : (graph : Graph) (side : Side) (id key : List ℕ) (s : Values) (side2 : Side) (id2 key2 : List ℕ) (Q : Values → Type 0) → (side2 ≡ side → id2 ≡ id → key2 ≡ key → Q s) → Q (values_at graph side2 id2 key2) → Q (values_at (with_values_at graph side id key s) side2 id2 key2)
 value_case graph Vertex id key s Vertex id2 key2 Q here old = read_case graph.vertex_values id key s Q id2 key2 (eq_by_cmp (slice_cmp nat_cmp) id2 id) refl (here refl) old
 value_case graph Edge id key s Edge id2 key2 Q here old = read_case graph.edge_values id key s Q id2 key2 (eq_by_cmp (slice_cmp nat_cmp) id2 id) refl (here refl) old
 value_case graph Vertex id key s Edge id2 key2 Q here old = old
