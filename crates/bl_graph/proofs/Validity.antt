@@ -1,5 +1,5 @@
 -- A change that fits keeps a graph valid.
-use Rattle.std.specs.Prelude.{◌≡◌, ◌≢◌, ◌==◌, ℕ, ◌+◌, ◌-◌, ◌≤◌, Bool, true, false, not, ◌&&◌, ◌||◌, cond, if◌then◌else◌, List, Some, None, is_some, is_none, IfSome, refl}
+use Rattle.std.specs.Prelude.{◌≡◌, ◌≢◌, ◌==◌, ℕ, ◌+◌, ◌-◌, ◌≤◌, Bool, true, false, not, ◌&&◌, ◌||◌, cond, if◌then◌else◌, List, [], ◌∷◌, Some, None, is_some, is_none, IfSome, refl}
 use Rattle.std.specs.declared.option.Option.{Option}
 use Rattle.std.specs.Option.{unwrap_or}
 use Rattle.std.proofs.Common.{sym, ap, subst, ◌∙◌, arith}
@@ -18,8 +18,11 @@ use Rattle.bl_value.specs.declared.column.Side.{Side}
 use Rattle.bl_value.specs.declared.column.Side.TheVariants.{Vertex, Edge}
 use Rattle.bl_value.specs.declared.change.Change.{Change}
 use Rattle.bl_value.specs.declared.change.Change.TheVariants.{AddLabel, AddEdge, AddValue, RemoveValue}
+use Rattle.bl_graph.specs.declared.verdict.Verdict.{Verdict}
+use Rattle.bl_graph.specs.declared.verdict.Verdict.TheVariants.{Changes, Duplicate, Refused}
 use Rattle.bl_graph.specs.Graph.{Graph, Values, ByText, Texts, Ends, Properties, empty, at_key, keys_in, labels_of, has_vertex, edge_of, has_owner, properties, values_at}
-use Rattle.bl_graph.specs.Replay.{with_values, with_values_in, with_values_at, after_one, fits, may_take}
+use Rattle.bl_graph.specs.Replay.{with_values, with_values_in, with_values_at, after_one, after, fits, fit, may_take}
+use Rattle.bl_graph.specs.Admitted.{DoesFit, after_verdict}
 use Rattle.bl_graph.specs.ValidGraph.{IsFull, IsValidGraph}
 use Rattle.bl_graph.proofs.Maps.{none_at_key, set_with}
 use Rattle.bl_graph.proofs.ValueOrder.{value_cmp_total}
@@ -216,6 +219,18 @@ module _ (graph : Graph) (valid : IsValidGraph graph) where
       valid_added Edge id key v fitting (λ p. few_with (values_at graph Edge id key) v (fits_later (has_owner graph Edge id && not (set.contains (values_at graph Edge id key) v)) (may_take Edge (values_at graph Edge id key)) fitting))
   valid_after (RemoveValue Vertex id key v) fitting = valid_removed Vertex id key v (λ p. absurd (false≢true (ap is_vertex p)))
   valid_after (RemoveValue Edge id key v) fitting = valid_removed Edge id key v (λ p. few_without (values_at graph Edge id key) v (valid.one id key))
+
+-- changes that fit, each in turn, keep the graph valid
+pub valid_after_all : (graph : Graph) (changes : List Change) → IsValidGraph graph → fit graph changes ≡ true → IsValidGraph (after graph changes)
+valid_after_all graph [] valid fitting = valid
+valid_after_all graph (c ∷ cs) valid fitting =
+    valid_after_all (after_one graph c) cs (valid_after graph valid c (fits_first (fits graph c) (fit (after_one graph c) cs) fitting)) (fits_later (fits graph c) (fit (after_one graph c) cs) fitting)
+
+-- changes that fit, of a verdict
+pub valid_after_verdict : (graph : Graph) (verdict : Verdict) → IsValidGraph graph → DoesFit graph verdict → IsValidGraph (after_verdict graph verdict)
+valid_after_verdict graph (Changes changes) valid fitting = valid_after_all graph changes valid fitting
+valid_after_verdict graph Duplicate valid fitting = valid
+valid_after_verdict graph (Refused code column) valid fitting = valid
 
 nothing_at : {X : Type 0} (P : X → Type 0) (id : List ℕ) → IfSome (map.get (map.empty {X = X} {R = slice_cmp nat_cmp}) id) P
 nothing_at {X} P id = subst (λ (o : Option X). IfSome o P) (sym (map.get-empty (slice_cmp nat_cmp) id)) tt

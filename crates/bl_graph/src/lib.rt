@@ -5,8 +5,8 @@
 //! may be made. Contracts see the graph as the finite maps of its definition.
 //!
 //! Words of the contracts: `specs/Graph` (the maps), `specs/Replay` (changes applied),
-//! `specs/Admission` (what a row does), `specs/Admitted` (what is promised of that),
-//! `specs/ValidGraph`, `specs/Sizes`. This crate stands on `bl_value` and `bl_outside`.
+//! `specs/Admission` (what a row does), `specs/Admitted` and `specs/WithRow` (what is promised of
+//! that), `specs/ValidGraph`, `specs/Sizes`. This crate stands on `bl_value` and `bl_outside`.
 #![tactic(auto)]
 
 mod admission;
@@ -27,7 +27,7 @@ use copied::{Copied, copy_map};
 use edges::{EdgeEnds, Edges};
 pub use graph::Graph;
 use keyed_values::KeyedValues;
-pub use laws::replay_is_one_fold;
+pub use laws::{changes_that_fit_keep_validity, proper_rows_keep_validity, replay_is_one_fold};
 use owned_values::OwnedValues;
 use text_set::TextSet;
 use value_set::ValueSet;
