@@ -35,4 +35,10 @@ pub use verdict::Verdict;
 use vertices::Vertices;
 
 #[cfg(test)]
+mod against_plain;
+#[cfg(test)]
+mod plain_admission;
+#[cfg(test)]
+mod test_rows;
+#[cfg(test)]
 mod tests;
