@@ -6,12 +6,12 @@ use std::alloc::Global;
 
 /// A value.
 #[derive(Clone, Copy, Debug)]
-pub enum Given<'a> {
+pub enum Given {
     Truth(bool),
     Byte(i8),
     Int(i32),
     Long(i64),
-    Word(&'a str),
+    Word(&'static str),
     Date(i64),
 }
 
@@ -21,34 +21,34 @@ pub const BOB: Given = Given::Word("Bob");
 
 /// A key, with a set of values or with a single one.
 #[derive(Clone, Copy, Debug)]
-pub enum At<'a> {
-    Set(&'a str, &'a [Given<'a>]),
-    Single(&'a str, Given<'a>),
+pub enum At {
+    Set(&'static str, &'static [Given]),
+    Single(&'static str, Given),
 }
 
 /// A row: a vertex with its id and labels, an edge with its id, `from`, `to` and label, or a code
 /// and its column. The first property stands in column 3 of a vertex and 5 of an edge.
 #[derive(Clone, Copy, Debug)]
-pub enum Line<'a> {
-    Vertex(&'a str, &'a [&'a str], &'a [At<'a>]),
-    Edge(&'a str, &'a str, &'a str, &'a str, &'a [At<'a>]),
+pub enum Line {
+    Vertex(&'static str, &'static [&'static str], &'static [At]),
+    Edge(&'static str, &'static str, &'static str, &'static str, &'static [At]),
     Bad(LogCode, u32),
 }
 
 /// A change: a label of a vertex, an edge with its id, `from`, `to` and label, or a value with its
 /// side, id and key.
 #[derive(Clone, Copy, Debug)]
-pub enum Step<'a> {
-    Label(&'a str, &'a str),
-    Edge(&'a str, &'a str, &'a str, &'a str),
-    Add(Side, &'a str, &'a str, Given<'a>),
-    Remove(Side, &'a str, &'a str, Given<'a>),
+pub enum Step {
+    Label(&'static str, &'static str),
+    Edge(&'static str, &'static str, &'static str, &'static str),
+    Add(Side, &'static str, &'static str, Given),
+    Remove(Side, &'static str, &'static str, Given),
 }
 
 /// A verdict.
 #[derive(Clone, Copy, Debug)]
-pub enum Answer<'a> {
-    Changes(&'a [Step<'a>]),
+pub enum Answer {
+    Changes(&'static [Step]),
     Duplicate,
     Refused(LogCode, u32),
 }
