@@ -1,5 +1,5 @@
 -- The changes of a proper row fit.
-use Rattle.std.specs.Prelude.{◌≡◌, ◌==◌, ℕ, Bool, true, false, not, ◌&&◌, ◌||◌, cond, if◌then◌else◌, nat_eq, codes, List, [], ◌∷◌, ◌++◌, filter, map as each, length, Some, None, is_some, is_none, refl}
+use Rattle.std.specs.Prelude.{◌≡◌, ◌==◌, ℕ, Bool, true, false, not, ◌&&◌, cond, if◌then◌else◌, codes, List, [], ◌∷◌, ◌++◌, filter, map as each, length, Some, None, is_some, is_none, refl}
 use Rattle.std.specs.declared.option.Option.{Option}
 use Rattle.std.specs.Option.{unwrap_or}
 use Rattle.std.specs.List.{AllByRecursion, IsDistinct, flat_map}
@@ -11,7 +11,6 @@ use Rattle.std.specs.Cmp.Lexicographic.{slice_cmp, nat_list_cmp_total}
 use Rattle.std.specs.FinMap as map
 use Rattle.bl_outside.specs.OrderedSet as set
 use Rattle.bl_outside.proofs.Finite.{contains-empty}
-use Rattle.bl_value.specs.declared.column.Side.{Side}
 use Rattle.bl_value.specs.declared.column.Side.TheVariants.{Vertex, Edge}
 use Rattle.bl_value.specs.declared.change.Change.{Change}
 use Rattle.bl_value.specs.declared.change.Change.TheVariants.{AddLabel, AddEdge}
@@ -22,14 +21,14 @@ use Rattle.bl_value.specs.declared.row.Row.{Row}
 use Rattle.bl_value.specs.declared.row.Row.TheVariants.{Vertex as vertex_row, Edge as edge_row, Bad}
 use Rattle.bl_value.specs.ValidRows.{AreApart}
 use Rattle.bl_graph.specs.declared.verdict.Verdict.{Verdict}
-use Rattle.bl_graph.specs.Graph.{Graph, Texts, Ends, has_vertex, labels_of, edge_of, values_at, has_owner}
-use Rattle.bl_graph.specs.Replay.{after_one, after, fits, fit}
-use Rattle.bl_graph.specs.Admission.{property_changes, label_changes, edge_changes, edge_refusal, is_edge, changed, unless_conflict, unless_refused, conflict, admit}
+use Rattle.bl_graph.specs.Graph.{Graph, Texts, Ends, has_vertex, labels_of, edge_of, values_at}
+use Rattle.bl_graph.specs.Replay.{after_one, after, fit}
+use Rattle.bl_graph.specs.Admission.{property_changes, label_changes, edge_changes, edge_refusal, changed, unless_conflict, unless_refused, conflict, admit}
 use Rattle.bl_graph.specs.Admitted.{IsProper, AreProper, IsProperRow, DoesFit}
 use Rattle.bl_graph.proofs.Maps.{itself}
 use Rattle.bl_graph.proofs.Apart.{all_two, apart_filter, failing, still_missing}
 use Rattle.bl_graph.proofs.Fitting.{fit_more}
-use Rattle.bl_graph.proofs.FittingRows.{none_apart, apart_by_order, by_recursion, if_apart, fit_properties, all_same, any_on_vertex}
+use Rattle.bl_graph.proofs.FittingRows.{none_apart, apart_by_order, by_recursion, fit_properties, all_same, any_on_vertex}
 
 -- ---- labels
 

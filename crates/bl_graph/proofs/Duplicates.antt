@@ -24,7 +24,7 @@ use Rattle.bl_value.specs.declared.row.Row.TheVariants.{Vertex as vertex_row, Ed
 use Rattle.bl_graph.specs.declared.verdict.Verdict.{Verdict}
 use Rattle.bl_graph.specs.Graph.{Graph, Ends, has_vertex, labels_of, edge_of, values_at}
 use Rattle.bl_graph.specs.Replay.{after}
-use Rattle.bl_graph.specs.Admission.{is_among, is_edge, replaced, added, property_changes, label_changes, edge_changes, edge_refusal, changed, unless_conflict, unless_refused, conflict, admit}
+use Rattle.bl_graph.specs.Admission.{is_among, replaced, added, property_changes, label_changes, edge_changes, edge_refusal, changed, unless_conflict, unless_refused, conflict, admit}
 use Rattle.bl_graph.specs.Admitted.{HasProperty, HasRow, SaysNothingNew}
 use Rattle.bl_graph.proofs.ValueOrder.{exact_values}
 use Rattle.bl_graph.proofs.Fitting.{removals, additions}

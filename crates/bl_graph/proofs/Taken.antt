@@ -1,7 +1,6 @@
 -- The graph after the changes of a row has taken the row.
 use Rattle.std.specs.Prelude.{◌≡◌, ◌==◌, ℕ, Bool, true, false, not, ◌&&◌, ◌||◌, cond, if◌then◌else◌, nat_eq, List, [], ◌∷◌, ◌++◌, filter, map as each, length, Some, None, refl}
 use Rattle.std.specs.declared.option.Option.{Option}
-use Rattle.std.specs.Option.{unwrap_or}
 use Rattle.std.specs.List.{AllByRecursion, list_any, flat_map}
 use Rattle.std.proofs.Common.{sym, ap, subst, ◌∙◌}
 use Rattle.std.proofs.lemmas.Map.Keys.{IsDistinct-head, IsDistinct-tail}
@@ -23,7 +22,7 @@ use Rattle.bl_value.specs.declared.row.Row.{Row}
 use Rattle.bl_value.specs.declared.row.Row.TheVariants.{Vertex as vertex_row, Edge as edge_row, Bad}
 use Rattle.bl_value.specs.ValidRows.{AreApart}
 use Rattle.bl_graph.specs.declared.verdict.Verdict.{Verdict}
-use Rattle.bl_graph.specs.Graph.{Graph, Values, ByText, Texts, Ends, texts_at, labels_of, edge_of, has_vertex, values_at}
+use Rattle.bl_graph.specs.Graph.{Graph, Values, ByText, Ends, texts_at, labels_of, edge_of, has_vertex, values_at}
 use Rattle.bl_graph.specs.Replay.{after_one, after, with_values_at}
 use Rattle.bl_graph.specs.Admission.{given_labels, is_among, replaced, added, property_changes, label_changes, edge_changes, edge_refusal, changed, unless_conflict, unless_refused, conflict, admit}
 use Rattle.bl_graph.specs.Admitted.{IsProperRow}

@@ -1,5 +1,5 @@
 -- A change that fits keeps a graph valid.
-use Rattle.std.specs.Prelude.{◌≡◌, ◌≢◌, ◌==◌, ℕ, ◌+◌, ◌-◌, ◌≤◌, Bool, true, false, not, ◌&&◌, ◌||◌, cond, if◌then◌else◌, List, [], ◌∷◌, Some, None, is_some, is_none, IfSome, refl}
+use Rattle.std.specs.Prelude.{◌≡◌, ◌≢◌, ◌==◌, ℕ, ◌+◌, ◌-◌, ◌≤◌, Bool, true, false, not, ◌&&◌, cond, if◌then◌else◌, List, [], ◌∷◌, Some, None, is_some, is_none, IfSome, refl}
 use Rattle.std.specs.declared.option.Option.{Option}
 use Rattle.std.specs.Option.{unwrap_or}
 use Rattle.std.proofs.Common.{sym, ap, subst, ◌∙◌, arith}
@@ -20,7 +20,7 @@ use Rattle.bl_value.specs.declared.change.Change.{Change}
 use Rattle.bl_value.specs.declared.change.Change.TheVariants.{AddLabel, AddEdge, AddValue, RemoveValue}
 use Rattle.bl_graph.specs.declared.verdict.Verdict.{Verdict}
 use Rattle.bl_graph.specs.declared.verdict.Verdict.TheVariants.{Changes, Duplicate, Refused}
-use Rattle.bl_graph.specs.Graph.{Graph, Values, ByText, Texts, Ends, Properties, empty, at_key, keys_in, labels_of, has_vertex, edge_of, has_owner, properties, values_at}
+use Rattle.bl_graph.specs.Graph.{Graph, Values, ByText, Ends, Properties, empty, at_key, keys_in, labels_of, has_vertex, edge_of, has_owner, properties, values_at}
 use Rattle.bl_graph.specs.Replay.{with_values, with_values_in, with_values_at, after_one, after, fits, fit, may_take}
 use Rattle.bl_graph.specs.Admitted.{DoesFit, after_verdict}
 use Rattle.bl_graph.specs.ValidGraph.{IsFull, IsValidGraph}
