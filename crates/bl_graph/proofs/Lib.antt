@@ -11,3 +11,4 @@ pub mod Admitted
 pub mod Duplicates
 pub mod Validity
 pub mod Taken
+mod OneWay

@@ -68,7 +68,7 @@ module _ (all : Properties) (id key : List ℕ) (s : Values) (Q : Values → Typ
   read_case id2 key2 true tie here old = key_case id2 key2 (eq_by_cmp (slice_cmp nat_cmp) key2 key) refl (same_key id2 id tie) (here (same_key id2 id tie)) old
   read_case id2 key2 false tie here old = subst Q (sym (other_owner all id key s id2 key2 tie)) old
 
-none_full : (key : List ℕ) → IfSome (map.get (map.empty {X = Values} {R = slice_cmp nat_cmp}) key) (λ values. set.len values ≢ 0)
+pub none_full : (key : List ℕ) → IfSome (map.get (map.empty {X = Values} {R = slice_cmp nat_cmp}) key) (λ values. set.len values ≢ 0)
 none_full key = subst (λ (o : Option Values). IfSome o (λ (values : Values). set.len values ≢ 0)) (sym (map.get-empty (slice_cmp nat_cmp) key)) tt
 
 keys_full : (o : Option (ByText Values)) → IfSome o IsFull → (key : List ℕ) → IfSome (map.get (unwrap_or o map.empty) key) (λ values. set.len values ≢ 0)
@@ -146,7 +146,7 @@ few_with s v h = subst (λ n. n ≤ 1) (sym (map.len-insert value_cmp_total s v 
 few_without : (s : Values) (v : Value) → set.len s ≤ 1 → set.len (set.remove s v) ≤ 1
 few_without s v h = subst (λ n. n ≤ 1) (sym (map.len-remove value_cmp_total s v)) (one_less_at (set.contains s v) (set.len s) h)
 
-abbrev is_vertex : Side → Bool
+abbrev pub is_vertex : Side → Bool
 is_vertex Vertex = true
 is_vertex Edge = false
 

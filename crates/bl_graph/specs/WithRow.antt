@@ -15,6 +15,7 @@ use Rattle.bl_graph.specs.declared.verdict.Verdict.{Verdict}
 use Rattle.bl_graph.specs.declared.verdict.Verdict.TheVariants.{Changes, Duplicate, Refused}
 use Rattle.bl_graph.specs.Graph.{Graph, Values, has_vertex, labels_of, edge_of, values_at}
 use Rattle.bl_graph.specs.Replay.{after}
+use Rattle.bl_graph.specs.ValidGraph.{IsValidGraph}
 use Rattle.bl_graph.specs.Admission.{given_labels, is_among}
 
 -- the text is one of those
@@ -62,3 +63,7 @@ abbrev pub IsTaken : Graph → Row → Verdict → Type 0
 IsTaken graph row (Changes changes) = TakesRow graph row (after graph changes)
 IsTaken graph row Duplicate = TakesRow graph row graph
 IsTaken graph row (Refused code column) = Unit {0}
+
+-- At most one valid graph has taken the row from a graph: the definition leaves nothing open.
+abbrev pub TakesInOneWay : Type 0
+TakesInOneWay = (graph : Graph) (row : Row) (one other : Graph) → IsValidGraph one → IsValidGraph other → TakesRow graph row one → TakesRow graph row other → one ≡ other

@@ -27,7 +27,10 @@ use copied::{Copied, copy_map};
 use edges::{EdgeEnds, Edges};
 pub use graph::Graph;
 use keyed_values::KeyedValues;
-pub use laws::{changes_that_fit_keep_validity, proper_rows_keep_validity, replay_is_one_fold};
+pub use laws::{
+    a_row_is_taken_in_one_way, changes_that_fit_keep_validity, proper_rows_keep_validity,
+    replay_is_one_fold,
+};
 use owned_values::OwnedValues;
 use text_set::TextSet;
 use value_set::ValueSet;
