@@ -1,5 +1,5 @@
 -- The changes of a proper row fit.
-use Rattle.std.specs.Prelude.{◌≡◌, ◌==◌, ℕ, Bool, true, false, not, ◌&&◌, ◌||◌, cond, if◌then◌else◌, nat_eq, codes, List, [], ◌∷◌, ◌++◌, filter, map as each, length, Some, None, is_some, is_none, refl}
+use Rattle.std.specs.Prelude.{◌≡◌, ◌==◌, ℕ, Bool, true, false, not, ◌&&◌, cond, if◌then◌else◌, codes, List, [], ◌∷◌, ◌++◌, filter, map as each, length, Some, None, is_some, is_none, refl}
 use Rattle.std.specs.declared.option.Option.{Option}
 use Rattle.std.specs.Option.{unwrap_or}
 use Rattle.std.specs.List.{AllByRecursion, IsDistinct, flat_map}
@@ -11,7 +11,6 @@ use Rattle.std.specs.Cmp.Lexicographic.{slice_cmp, nat_list_cmp_total}
 use Rattle.std.specs.FinMap as map
 use Rattle.bl_outside.specs.OrderedSet as set
 use Rattle.bl_outside.proofs.Finite.{contains-empty}
-use Rattle.bl_value.specs.declared.column.Side.{Side}
 use Rattle.bl_value.specs.declared.column.Side.TheVariants.{Vertex, Edge}
 use Rattle.bl_value.specs.declared.change.Change.{Change}
 use Rattle.bl_value.specs.declared.change.Change.TheVariants.{AddLabel, AddEdge}
@@ -20,15 +19,16 @@ use Rattle.bl_value.specs.declared.log_code.LogCode.TheVariants.{FromMissing, To
 use Rattle.bl_value.specs.declared.row.Property.{Property}
 use Rattle.bl_value.specs.declared.row.Row.{Row}
 use Rattle.bl_value.specs.declared.row.Row.TheVariants.{Vertex as vertex_row, Edge as edge_row, Bad}
+use Rattle.bl_value.specs.ValidRows.{AreApart}
 use Rattle.bl_graph.specs.declared.verdict.Verdict.{Verdict}
-use Rattle.bl_graph.specs.Graph.{Graph, Texts, Ends, has_vertex, labels_of, edge_of, values_at, has_owner}
-use Rattle.bl_graph.specs.Replay.{after_one, after, fits, fit}
-use Rattle.bl_graph.specs.Admission.{property_changes, label_changes, edge_changes, edge_refusal, is_edge, changed, unless_conflict, unless_refused, conflict, admit}
-use Rattle.bl_graph.specs.Admitted.{AreApart, IsProper, AreProper, IsProperRow, DoesFit}
+use Rattle.bl_graph.specs.Graph.{Graph, Texts, Ends, has_vertex, labels_of, edge_of, values_at}
+use Rattle.bl_graph.specs.Replay.{after_one, after, fit}
+use Rattle.bl_graph.specs.Admission.{property_changes, label_changes, edge_changes, edge_refusal, changed, unless_conflict, unless_refused, conflict, admit}
+use Rattle.bl_graph.specs.Admitted.{IsProper, AreProper, IsProperRow, DoesFit}
 use Rattle.bl_graph.proofs.Maps.{itself}
 use Rattle.bl_graph.proofs.Apart.{all_two, apart_filter, failing, still_missing}
 use Rattle.bl_graph.proofs.Fitting.{fit_more}
-use Rattle.bl_graph.proofs.FittingRows.{none_apart, apart_by_order, by_recursion, if_apart, fit_properties, all_same, any_on_vertex}
+use Rattle.bl_graph.proofs.FittingRows.{none_apart, apart_by_order, by_recursion, fit_properties, all_same, any_on_vertex}
 
 -- ---- labels
 
@@ -36,7 +36,7 @@ module _ (id : List ℕ) where
   abbrev pub labelled : List (List ℕ) → List Change
   labelled labels = each (λ label. AddLabel id label) labels
 
-  labels_with : (graph : Graph) (label : List ℕ) → labels_of (after_one graph (AddLabel id label)) id ≡ set.insert (labels_of graph id) label
+  pub labels_with : (graph : Graph) (label : List ℕ) → labels_of (after_one graph (AddLabel id label)) id ≡ set.insert (labels_of graph id) label
   labels_with graph label =
       ap (λ (o : Option Texts). unwrap_or o set.empty)
       (map.get-insert nat_list_cmp_total graph.labels id (set.insert (labels_of graph id) label) id ∙ ap (λ b. cond b (Some (set.insert (labels_of graph id) label)) (map.get graph.labels id)) (itself nat_list_cmp_total id))

@@ -1,15 +1,13 @@
 -- Conflicts, and the first of them in a list of properties.
-use Rattle.std.specs.Prelude.{◌≡◌, ◌==◌, ℕ, ◌+◌, ◌<◌, Bool, true, false, cond, not, if◌then◌else◌, filter, length, List, [], ◌∷◌, drop, Some, None, refl}
+use Rattle.std.specs.Prelude.{◌≡◌, ◌==◌, ℕ, ◌+◌, ◌<◌, Bool, true, false, cond, not, if◌then◌else◌, filter, length, List, [], drop, Some, refl}
 use Rattle.std.specs.List.{find}
 use Rattle.std.proofs.Common.{get_or, sym, ap, ◌∙◌}
 use Rattle.std.proofs.lemmas.List.{at_drop_more}
-use Rattle.std.specs.FinMap as map
 use Rattle.bl_outside.specs.OrderedSet as set
 use Rattle.bl_outside.proofs.Finite.{no_items}
 use Rattle.bl_value.specs.Order.{value_cmp}
 use Rattle.bl_value.specs.declared.column.Side.{Side}
 use Rattle.bl_value.specs.declared.row.Property.{Property}
-use Rattle.bl_value.specs.declared.value.Value.{Value}
 use Rattle.bl_graph.specs.Graph.{Graph, Values, values_at}
 use Rattle.bl_graph.specs.Admission.{conflicts, replaced, is_among}
 

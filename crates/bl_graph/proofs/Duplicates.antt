@@ -24,7 +24,7 @@ use Rattle.bl_value.specs.declared.row.Row.TheVariants.{Vertex as vertex_row, Ed
 use Rattle.bl_graph.specs.declared.verdict.Verdict.{Verdict}
 use Rattle.bl_graph.specs.Graph.{Graph, Ends, has_vertex, labels_of, edge_of, values_at}
 use Rattle.bl_graph.specs.Replay.{after}
-use Rattle.bl_graph.specs.Admission.{is_among, is_edge, replaced, added, property_changes, label_changes, edge_changes, edge_refusal, changed, unless_conflict, unless_refused, conflict, admit}
+use Rattle.bl_graph.specs.Admission.{is_among, replaced, added, property_changes, label_changes, edge_changes, edge_refusal, changed, unless_conflict, unless_refused, conflict, admit}
 use Rattle.bl_graph.specs.Admitted.{HasProperty, HasRow, SaysNothingNew}
 use Rattle.bl_graph.proofs.ValueOrder.{exact_values}
 use Rattle.bl_graph.proofs.Fitting.{removals, additions}
@@ -104,7 +104,7 @@ has_vertex_row graph id labels properties none =
       to_all (HasProperty graph Vertex id) properties (has_properties graph Vertex id properties (later_nothing (label_changes graph id labels) (flat_map (property_changes graph Vertex id) properties) none)),
     )
 
-same_text : (a b : List ℕ) → pointwise nat_eq a b ≡ true → a ≡ b
+pub same_text : (a b : List ℕ) → pointwise nat_eq a b ≡ true → a ≡ b
 same_text a b h = exact_bytes a b ((Equal-is _).0 (sym (texts_ties a b) ∙ h))
 
 three : (a b c : Bool) → (if a && b && c then None else Some EdgeConflict) ≡ None → (a ≡ true) × (b ≡ true) × (c ≡ true)
@@ -113,13 +113,16 @@ three true true false h = absurd (false≢true (ap is_none h))
 three true false c h = absurd (false≢true (ap is_none h))
 three false b c h = absurd (false≢true (ap is_none h))
 
+-- an edge that isn't refused is the one that is there
+pub same_edge : (graph : Graph) (id label from to : List ℕ) (ends : Ends) → edge_of graph id ≡ Some ends → edge_refusal graph (Some ends) label from to ≡ None → edge_of graph id ≡ Some (record { label = label; from = from; to = to })
+same_edge graph id label from to ends is allowed =
+    let same : (pointwise nat_eq ends.label label ≡ true) × (pointwise nat_eq ends.from from ≡ true) × (pointwise nat_eq ends.to to ≡ true) = three (pointwise nat_eq ends.label label) (pointwise nat_eq ends.from from) (pointwise nat_eq ends.to to) allowed in
+    is ∙ (λ i. Some (record { label = same_text ends.label label same.0 i; from = same_text ends.from from same.1 i; to = same_text ends.to to same.2 i }))
+
 has_edge_row : (graph : Graph) (id label from to : List ℕ) (known : Option Ends) (properties : List Property) → edge_of graph id ≡ known → edge_refusal graph known label from to ≡ None → edge_changes known id label from to ++ flat_map (property_changes graph Edge id) properties ≡ [] → HasRow graph (edge_row id label from to properties)
 has_edge_row graph id label from to None properties is allowed none = absurd (no_first _ (flat_map (property_changes graph Edge id) properties) none)
 has_edge_row graph id label from to (Some ends) properties is allowed none =
-    let same : (pointwise nat_eq ends.label label ≡ true) × (pointwise nat_eq ends.from from ≡ true) × (pointwise nat_eq ends.to to ≡ true) = three (pointwise nat_eq ends.label label) (pointwise nat_eq ends.from from) (pointwise nat_eq ends.to to) allowed in (
-      is ∙ (λ i. Some (record { label = same_text ends.label label same.0 i; from = same_text ends.from from same.1 i; to = same_text ends.to to same.2 i })),
-      to_all (HasProperty graph Edge id) properties (has_properties graph Edge id properties none),
-    )
+    (same_edge graph id label from to ends is allowed, to_all (HasProperty graph Edge id) properties (has_properties graph Edge id properties none))
 
 -- ---- verdicts
 

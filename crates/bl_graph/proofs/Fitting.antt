@@ -1,7 +1,7 @@
 -- The changes of a property fit.
-use Rattle.std.specs.Prelude.{◌≡◌, ◌==◌, ℕ, Bool, true, false, not, ◌&&◌, ◌||◌, if◌then◌else◌, List, [], ◌∷◌, ◌++◌, filter, map as each, length, refl}
+use Rattle.std.specs.Prelude.{◌≡◌, ◌==◌, ℕ, Bool, true, false, not, ◌&&◌, ◌||◌, if◌then◌else◌, List, [], ◌∷◌, ◌++◌, filter, map as each, refl}
 use Rattle.std.specs.List.{list_any, AllByRecursion, IsDistinct}
-use Rattle.std.proofs.Common.{sym, ap, subst, ◌∙◌}
+use Rattle.std.proofs.Common.{sym, ap, ◌∙◌}
 use Rattle.std.proofs.lemmas.Bool.{false≢true}
 use Rattle.std.proofs.lemmas.Map.Keys.{IsDistinct-head, IsDistinct-tail}
 use Rattle.std.specs.Ordering.{nat_cmp, eq_by_cmp, is_eq}
@@ -17,11 +17,11 @@ use Rattle.bl_value.specs.declared.column.Side.TheVariants.{Vertex, Edge}
 use Rattle.bl_value.specs.declared.change.Change.{Change}
 use Rattle.bl_value.specs.declared.change.Change.TheVariants.{AddValue, RemoveValue}
 use Rattle.bl_graph.specs.Graph.{Graph, Values, values_at, has_owner}
-use Rattle.bl_graph.specs.Replay.{after_one, after, fits, fit, with_values_at, may_take}
+use Rattle.bl_graph.specs.Replay.{after_one, after, fits, fit}
 use Rattle.bl_graph.specs.Admission.{is_among}
 use Rattle.bl_graph.proofs.ValueOrder.{value_cmp_total, exact_values}
 use Rattle.bl_graph.proofs.Lenses.{values_there, values_elsewhere, owner_stays}
-use Rattle.bl_graph.proofs.Apart.{all_two, all_map, take_all, gone, taken, still_missing, still_there}
+use Rattle.bl_graph.proofs.Apart.{all_two, take_all, gone, taken, still_missing, still_there}
 
 pub fits_first : (a b : Bool) → (a && b) ≡ true → a ≡ true
 fits_first true b h = refl

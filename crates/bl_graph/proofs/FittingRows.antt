@@ -1,43 +1,32 @@
 -- The changes of a row fit.
-use Rattle.std.specs.Prelude.{◌≡◌, ◌==◌, ℕ, Bool, true, false, not, ◌&&◌, ◌||◌, cond, if◌then◌else◌, nat_eq, codes, List, [], ◌∷◌, ◌++◌, filter, map as each, length, Some, None, is_some, is_none, refl}
-use Rattle.std.specs.declared.option.Option.{Option}
-use Rattle.std.specs.Option.{unwrap_or}
+use Rattle.std.specs.Prelude.{◌≡◌, ℕ, Bool, true, false, not, cond, if◌then◌else◌, nat_eq, List, [], ◌∷◌, filter, map as each, length, refl}
 use Rattle.std.specs.List.{All, AllByRecursion, IsDistinct, flat_map}
 use Rattle.std.proofs.Common.{sym, ap, subst, ◌∙◌}
-use Rattle.std.proofs.lemmas.Bool.{false≢true}
 use Rattle.std.proofs.lemmas.List.Elements.{All-head, All-tail}
-use Rattle.std.proofs.lemmas.Map.Keys.{IsDistinct-head, IsDistinct-tail, IsDistinct-cons}
+use Rattle.std.proofs.lemmas.Map.Keys.{IsDistinct-head, IsDistinct-tail}
 use Rattle.std.specs.Ordering.{nat_cmp, eq_by_cmp}
 use Rattle.std.specs.Cmp.Lexicographic.{slice_cmp, pointwise, nat_list_cmp_total, texts_ties}
-use Rattle.std.specs.FinMap as map
 use Rattle.bl_outside.specs.OrderedSet as set
-use Rattle.bl_outside.proofs.Finite.{contains-empty}
 use Rattle.bl_value.specs.Order.{value_cmp}
 use Rattle.bl_value.specs.declared.value.Value.{Value}
 use Rattle.bl_value.specs.declared.column.Side.{Side}
 use Rattle.bl_value.specs.declared.column.Side.TheVariants.{Vertex, Edge}
-use Rattle.bl_value.specs.declared.change.Change.{Change}
-use Rattle.bl_value.specs.declared.change.Change.TheVariants.{AddLabel, AddEdge}
-use Rattle.bl_value.specs.declared.log_code.LogCode.{LogCode}
 use Rattle.bl_value.specs.declared.row.Property.{Property}
-use Rattle.bl_value.specs.declared.row.Row.{Row}
-use Rattle.bl_value.specs.declared.row.Row.TheVariants.{Vertex as vertex_row, Edge as edge_row, Bad}
-use Rattle.bl_graph.specs.declared.verdict.Verdict.{Verdict}
-use Rattle.bl_graph.specs.Graph.{Graph, Values, Texts, Ends, has_vertex, labels_of, edge_of, values_at, has_owner}
-use Rattle.bl_graph.specs.Replay.{after_one, after, fits, fit}
-use Rattle.bl_graph.specs.Admission.{is_among, replaced, added, property_changes, label_changes, edge_changes, edge_refusal, changed, unless_conflict, unless_refused, conflict, admit}
-use Rattle.bl_graph.specs.Admitted.{AreApart, IsProper, AreProper, IsProperRow, DoesFit}
-use Rattle.bl_graph.proofs.Maps.{itself}
+use Rattle.bl_value.specs.ValidRows.{AreApart}
+use Rattle.bl_graph.specs.Graph.{Graph, Values, values_at, has_owner}
+use Rattle.bl_graph.specs.Replay.{after, fit}
+use Rattle.bl_graph.specs.Admission.{is_among, replaced, added, property_changes}
+use Rattle.bl_graph.specs.Admitted.{IsProper}
 use Rattle.bl_graph.proofs.ValueOrder.{value_cmp_total}
 use Rattle.bl_graph.proofs.Replayed.{after-append}
-use Rattle.bl_graph.proofs.Apart.{all_two, all_map, all_filter, apart_filter, failing, take_all, gone, flipped, still_missing, items_apart, items_there}
+use Rattle.bl_graph.proofs.Apart.{all_two, all_map, all_filter, apart_filter, failing, take_all, gone, flipped, items_apart, items_there}
 use Rattle.bl_graph.proofs.Fitting.{fit_more, removals, additions, fit_removals, after_removals, owner_after_removals, owner_after_additions, removals_apart, additions_apart, fit_vertex_additions, fit_edge_addition, others_gone}
 
 pub none_apart : {K : Type 0} (e : K → K → Bool) → IsDistinct e []
 unfolding IsDistinct
 none_apart e = tt
 
-by_order : (a b : List ℕ) → pointwise nat_eq a b ≡ false → eq_by_cmp (slice_cmp nat_cmp) a b ≡ false
+pub by_order : (a b : List ℕ) → pointwise nat_eq a b ≡ false → eq_by_cmp (slice_cmp nat_cmp) a b ≡ false
 by_order a b h = sym (texts_ties a b) ∙ h
 
 pub apart_by_order : (texts : List (List ℕ)) → AreApart texts → IsDistinct (eq_by_cmp (slice_cmp nat_cmp)) texts
@@ -47,7 +36,7 @@ pub by_recursion : {X : Type 0} (P : X → Type 0) (xs : List X) → All P xs �
 by_recursion P [] h = tt
 by_recursion P (x ∷ xs) h = (All-head P x xs h, by_recursion P xs (All-tail P x xs h))
 
-all_each : {X Y : Type 0} (f : X → Y) (P : Y → Type 0) (xs : List X) → AllByRecursion P (each f xs) → AllByRecursion (λ x. P (f x)) xs
+pub all_each : {X Y : Type 0} (f : X → Y) (P : Y → Type 0) (xs : List X) → AllByRecursion P (each f xs) → AllByRecursion (λ x. P (f x)) xs
 all_each f P [] h = tt
 all_each f P (x ∷ xs) h = (h.0, all_each f P xs h.1)
 
@@ -130,7 +119,7 @@ module _ (graph : Graph) (side : Side) (id : List ℕ) where
       ∙ owner_after_additions side id property.key (after now (removals side id property.key (replaced graph side id property))) (added graph side id property)
       ∙ owner_after_removals side id property.key now (replaced graph side id property)
 
-  elsewhere_later : (now : Graph) (property : Property) (other : List ℕ) → eq_by_cmp (slice_cmp nat_cmp) other property.key ≡ false → values_at (after now (property_changes graph side id property)) side id other ≡ values_at now side id other
+  pub elsewhere_later : (now : Graph) (property : Property) (other : List ℕ) → eq_by_cmp (slice_cmp nat_cmp) other property.key ≡ false → values_at (after now (property_changes graph side id property)) side id other ≡ values_at now side id other
   elsewhere_later now property other differs =
       ap (λ g. values_at g side id other) (after-append now (removals side id property.key (replaced graph side id property)) (additions side id property.key (added graph side id property)))
       ∙ additions_apart side id property.key other differs (after now (removals side id property.key (replaced graph side id property))) (added graph side id property)

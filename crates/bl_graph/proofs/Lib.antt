@@ -4,8 +4,11 @@ mod Maps
 mod Conflicts
 mod Lenses
 mod Apart
+mod Sets
 mod Fitting
 mod FittingRows
 pub mod Admitted
 pub mod Duplicates
 pub mod Validity
+pub mod Taken
+mod OneWay

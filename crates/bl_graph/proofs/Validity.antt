@@ -1,5 +1,5 @@
 -- A change that fits keeps a graph valid.
-use Rattle.std.specs.Prelude.{◌≡◌, ◌≢◌, ◌==◌, ℕ, ◌+◌, ◌-◌, ◌≤◌, Bool, true, false, not, ◌&&◌, ◌||◌, cond, if◌then◌else◌, List, Some, None, is_some, is_none, IfSome, refl}
+use Rattle.std.specs.Prelude.{◌≡◌, ◌≢◌, ◌==◌, ℕ, ◌+◌, ◌-◌, ◌≤◌, Bool, true, false, not, ◌&&◌, cond, if◌then◌else◌, List, [], ◌∷◌, Some, None, is_some, is_none, IfSome, refl}
 use Rattle.std.specs.declared.option.Option.{Option}
 use Rattle.std.specs.Option.{unwrap_or}
 use Rattle.std.proofs.Common.{sym, ap, subst, ◌∙◌, arith}
@@ -18,8 +18,11 @@ use Rattle.bl_value.specs.declared.column.Side.{Side}
 use Rattle.bl_value.specs.declared.column.Side.TheVariants.{Vertex, Edge}
 use Rattle.bl_value.specs.declared.change.Change.{Change}
 use Rattle.bl_value.specs.declared.change.Change.TheVariants.{AddLabel, AddEdge, AddValue, RemoveValue}
-use Rattle.bl_graph.specs.Graph.{Graph, Values, ByText, Texts, Ends, Properties, empty, at_key, keys_in, labels_of, has_vertex, edge_of, has_owner, properties, values_at}
-use Rattle.bl_graph.specs.Replay.{with_values, with_values_in, with_values_at, after_one, fits, may_take}
+use Rattle.bl_graph.specs.declared.verdict.Verdict.{Verdict}
+use Rattle.bl_graph.specs.declared.verdict.Verdict.TheVariants.{Changes, Duplicate, Refused}
+use Rattle.bl_graph.specs.Graph.{Graph, Values, ByText, Ends, Properties, empty, at_key, keys_in, labels_of, has_vertex, edge_of, has_owner, properties, values_at}
+use Rattle.bl_graph.specs.Replay.{with_values, with_values_in, with_values_at, after_one, after, fits, fit, may_take}
+use Rattle.bl_graph.specs.Admitted.{DoesFit, after_verdict}
 use Rattle.bl_graph.specs.ValidGraph.{IsFull, IsValidGraph}
 use Rattle.bl_graph.proofs.Maps.{none_at_key, set_with}
 use Rattle.bl_graph.proofs.ValueOrder.{value_cmp_total}
@@ -29,7 +32,7 @@ use Rattle.bl_graph.proofs.Fitting.{fits_first, fits_later}
 not_none : (n : ℕ) → (n == 0) ≡ false → n ≢ 0
 not_none n h = λ e. false≢true (sym h ∙ eq-eqb n 0 e)
 
-same_key : (a b : List ℕ) → eq_by_cmp (slice_cmp nat_cmp) a b ≡ true → a ≡ b
+pub same_key : (a b : List ℕ) → eq_by_cmp (slice_cmp nat_cmp) a b ≡ true → a ≡ b
 same_key a b h = exact_bytes a b ((Equal-is (slice_cmp nat_cmp a b)).0 h)
 
 module _ {X : Type 0} (P : X → Type 0) where
@@ -65,7 +68,7 @@ module _ (all : Properties) (id key : List ℕ) (s : Values) (Q : Values → Typ
   read_case id2 key2 true tie here old = key_case id2 key2 (eq_by_cmp (slice_cmp nat_cmp) key2 key) refl (same_key id2 id tie) (here (same_key id2 id tie)) old
   read_case id2 key2 false tie here old = subst Q (sym (other_owner all id key s id2 key2 tie)) old
 
-none_full : (key : List ℕ) → IfSome (map.get (map.empty {X = Values} {R = slice_cmp nat_cmp}) key) (λ values. set.len values ≢ 0)
+pub none_full : (key : List ℕ) → IfSome (map.get (map.empty {X = Values} {R = slice_cmp nat_cmp}) key) (λ values. set.len values ≢ 0)
 none_full key = subst (λ (o : Option Values). IfSome o (λ (values : Values). set.len values ≢ 0)) (sym (map.get-empty (slice_cmp nat_cmp) key)) tt
 
 keys_full : (o : Option (ByText Values)) → IfSome o IsFull → (key : List ℕ) → IfSome (map.get (unwrap_or o map.empty) key) (λ values. set.len values ≢ 0)
@@ -81,7 +84,7 @@ full_stays all id key s full q =
       each = λ key2. stash_all_hold (λ values. set.len values ≢ 0) (keys_in all id) key s (set.len s == 0) key2 (λ h. not_none (set.len s) h) (keys_full (map.get all id) (full id) key2);
     }) (full q)
 
-value_case : (graph : Graph) (side : Side) (id key : List ℕ) (s : Values) (side2 : Side) (id2 key2 : List ℕ) (Q : Values → Type 0) → (side2 ≡ side → id2 ≡ id → key2 ≡ key → Q s) → Q (values_at graph side2 id2 key2) → Q (values_at (with_values_at graph side id key s) side2 id2 key2)
+pub value_case : (graph : Graph) (side : Side) (id key : List ℕ) (s : Values) (side2 : Side) (id2 key2 : List ℕ) (Q : Values → Type 0) → (side2 ≡ side → id2 ≡ id → key2 ≡ key → Q s) → Q (values_at graph side2 id2 key2) → Q (values_at (with_values_at graph side id key s) side2 id2 key2)
 value_case graph Vertex id key s Vertex id2 key2 Q here old = read_case graph.vertex_values id key s Q id2 key2 (eq_by_cmp (slice_cmp nat_cmp) id2 id) refl (here refl) old
 value_case graph Edge id key s Edge id2 key2 Q here old = read_case graph.edge_values id key s Q id2 key2 (eq_by_cmp (slice_cmp nat_cmp) id2 id) refl (here refl) old
 value_case graph Vertex id key s Edge id2 key2 Q here old = old
@@ -143,7 +146,7 @@ few_with s v h = subst (λ n. n ≤ 1) (sym (map.len-insert value_cmp_total s v 
 few_without : (s : Values) (v : Value) → set.len s ≤ 1 → set.len (set.remove s v) ≤ 1
 few_without s v h = subst (λ n. n ≤ 1) (sym (map.len-remove value_cmp_total s v)) (one_less_at (set.contains s v) (set.len s) h)
 
-abbrev is_vertex : Side → Bool
+abbrev pub is_vertex : Side → Bool
 is_vertex Vertex = true
 is_vertex Edge = false
 
@@ -216,6 +219,18 @@ module _ (graph : Graph) (valid : IsValidGraph graph) where
       valid_added Edge id key v fitting (λ p. few_with (values_at graph Edge id key) v (fits_later (has_owner graph Edge id && not (set.contains (values_at graph Edge id key) v)) (may_take Edge (values_at graph Edge id key)) fitting))
   valid_after (RemoveValue Vertex id key v) fitting = valid_removed Vertex id key v (λ p. absurd (false≢true (ap is_vertex p)))
   valid_after (RemoveValue Edge id key v) fitting = valid_removed Edge id key v (λ p. few_without (values_at graph Edge id key) v (valid.one id key))
+
+-- changes that fit, each in turn, keep the graph valid
+pub valid_after_all : (graph : Graph) (changes : List Change) → IsValidGraph graph → fit graph changes ≡ true → IsValidGraph (after graph changes)
+valid_after_all graph [] valid fitting = valid
+valid_after_all graph (c ∷ cs) valid fitting =
+    valid_after_all (after_one graph c) cs (valid_after graph valid c (fits_first (fits graph c) (fit (after_one graph c) cs) fitting)) (fits_later (fits graph c) (fit (after_one graph c) cs) fitting)
+
+-- changes that fit, of a verdict
+pub valid_after_verdict : (graph : Graph) (verdict : Verdict) → IsValidGraph graph → DoesFit graph verdict → IsValidGraph (after_verdict graph verdict)
+valid_after_verdict graph (Changes changes) valid fitting = valid_after_all graph changes valid fitting
+valid_after_verdict graph Duplicate valid fitting = valid
+valid_after_verdict graph (Refused code column) valid fitting = valid
 
 nothing_at : {X : Type 0} (P : X → Type 0) (id : List ℕ) → IfSome (map.get (map.empty {X = X} {R = slice_cmp nat_cmp}) id) P
 nothing_at {X} P id = subst (λ (o : Option X). IfSome o P) (sym (map.get-empty (slice_cmp nat_cmp) id)) tt

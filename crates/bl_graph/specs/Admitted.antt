@@ -1,8 +1,7 @@
 -- What is promised of the changes of a row.
-use Rattle.std.specs.Prelude.{◌≡◌, ℕ, true, nat_eq, List, map, length, Some}
+use Rattle.std.specs.Prelude.{◌≡◌, ℕ, Bool, true, List, map, length, Some}
 use Rattle.std.specs.List.{All, IsDistinct}
 use Rattle.std.specs.Ordering.{eq_by_cmp}
-use Rattle.std.specs.Cmp.Lexicographic.{pointwise}
 use Rattle.bl_outside.specs.OrderedSet as set
 use Rattle.bl_value.specs.Order.{value_cmp}
 use Rattle.bl_value.specs.declared.value.Value.{Value}
@@ -11,15 +10,13 @@ use Rattle.bl_value.specs.declared.column.Side.TheVariants.{Vertex, Edge}
 use Rattle.bl_value.specs.declared.row.Property.{Property}
 use Rattle.bl_value.specs.declared.row.Row.{Row}
 use Rattle.bl_value.specs.declared.row.Row.TheVariants.{Vertex as vertex_row, Edge as edge_row, Bad}
+use Rattle.bl_value.specs.ValidRows.{AreApart}
 use Rattle.bl_graph.specs.declared.verdict.Verdict.{Verdict}
 use Rattle.bl_graph.specs.declared.verdict.Verdict.TheVariants.{Changes, Duplicate, Refused}
 use Rattle.bl_graph.specs.Graph.{Graph, has_vertex, labels_of, edge_of, values_at}
-use Rattle.bl_graph.specs.Admission.{is_among}
-use Rattle.bl_graph.specs.Replay.{fit}
-
--- no text stands there twice
-abbrev pub AreApart : List (List ℕ) → Type 0
-AreApart texts = IsDistinct (pointwise nat_eq) texts
+use Rattle.bl_graph.specs.Admission.{is_among, admit}
+use Rattle.bl_graph.specs.Replay.{after, fit}
+use Rattle.bl_graph.specs.ValidGraph.{IsValidGraph}
 
 -- no value stands there twice, and a single property has just one
 pub record IsProper (property : Property) : Type 0 where
@@ -42,6 +39,16 @@ abbrev pub DoesFit : Graph → Verdict → Type 0
 DoesFit graph (Changes changes) = fit graph changes ≡ true
 DoesFit graph Duplicate = Unit {0}
 DoesFit graph (Refused code column) = Unit {0}
+
+-- the graph after the changes of a row, if there are any
+abbrev pub after_verdict : Graph → Verdict → Graph
+after_verdict graph (Changes changes) = after graph changes
+after_verdict graph Duplicate = graph
+after_verdict graph (Refused code column) = graph
+
+-- A proper row makes a valid graph of a valid one.
+abbrev pub AdmissionKeepsValidity : Type 0
+AdmissionKeepsValidity = (graph : Graph) (update_single : Bool) (row : Row) → IsProperRow row → IsValidGraph graph → IsValidGraph (after_verdict graph (admit graph update_single row))
 
 -- The values of a property are there, and where it is single no others.
 pub record HasProperty (graph : Graph) (side : Side) (id : List ℕ) (property : Property) : Type 0 where

@@ -5,7 +5,9 @@ use Rattle.bl_outside.specs.OrderedSet as set
 use Rattle.bl_value.specs.declared.value.Value.{Value}
 use Rattle.bl_value.specs.declared.column.Side.{Side}
 use Rattle.bl_value.specs.declared.column.Side.TheVariants.{Edge}
+use Rattle.bl_value.specs.declared.change.Change.{Change}
 use Rattle.bl_graph.specs.Graph.{Graph, Values, ByText, has_vertex, edge_of, has_owner, properties, values_at}
+use Rattle.bl_graph.specs.Replay.{after, fit}
 
 -- a key, and each set of values, has something
 pub record IsFull (keys : ByText Values) : Type 0 where
@@ -22,3 +24,7 @@ pub record IsValidGraph (graph : Graph) : Type 0 where
   -- no vertex is without a label, no key without a value, and no owner of values without a key
   pub labelled : (id : List ℕ) → IfSome (map.get graph.labels id) (λ labels. set.len labels ≢ 0)
   pub full : (side : Side) (id : List ℕ) → IfSome (map.get (properties graph side) id) IsFull
+
+-- Changes that fit, each in turn, make a valid graph of a valid one.
+abbrev pub KeepsValidity : Type 0
+KeepsValidity = (graph : Graph) (changes : List Change) → IsValidGraph graph → fit graph changes ≡ true → IsValidGraph (after graph changes)

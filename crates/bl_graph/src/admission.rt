@@ -2,6 +2,7 @@
 ghost use Rattle.std.specs.Prelude.{◌≡◌, IfOk};
 ghost use Rattle.bl_graph.specs.Admission.{admit, changed, edge_refusal};
 ghost use Rattle.bl_graph.specs.Admitted.{DoesFit, IsProperRow, SaysNothingNew};
+ghost use Rattle.bl_graph.specs.WithRow.{IsTaken};
 ghost use Rattle.bl_graph.specs.Graph.{edge_of};
 
 use crate::{Graph, Verdict};
@@ -25,6 +26,7 @@ impl Graph {
     pub fn admit(&self, update_single: bool, row: &Row) -> Result<Verdict, NoMemory>
         ensures verdict { IfOk result (λ verdict. verdict ≡ admit self.now update_single row.now) }
         ensures fit { IfOk result (λ verdict. IsProperRow row.now → DoesFit self.now verdict) }
+        ensures taken { IfOk result (λ verdict. IsProperRow row.now → IsTaken self.now row.now verdict) }
         ensures duplicate { IfOk result (SaysNothingNew self.now row.now) }
     {
         self.admit_row(update_single, row)

@@ -5,8 +5,8 @@
 //! may be made. Contracts see the graph as the finite maps of its definition.
 //!
 //! Words of the contracts: `specs/Graph` (the maps), `specs/Replay` (changes applied),
-//! `specs/Admission` (what a row does), `specs/Admitted` (what is promised of that),
-//! `specs/ValidGraph`, `specs/Sizes`. This crate stands on `bl_value` and `bl_outside`.
+//! `specs/Admission` (what a row does), `specs/Admitted` and `specs/WithRow` (what is promised of
+//! that), `specs/ValidGraph`, `specs/Sizes`. This crate stands on `bl_value` and `bl_outside`.
 #![tactic(auto)]
 
 mod admission;
@@ -27,12 +27,21 @@ use copied::{Copied, copy_map};
 use edges::{EdgeEnds, Edges};
 pub use graph::Graph;
 use keyed_values::KeyedValues;
-pub use laws::replay_is_one_fold;
+pub use laws::{
+    a_row_is_taken_in_one_way, changes_that_fit_keep_validity, proper_rows_keep_validity,
+    replay_is_one_fold,
+};
 use owned_values::OwnedValues;
 use text_set::TextSet;
 use value_set::ValueSet;
 pub use verdict::Verdict;
 use vertices::Vertices;
 
+#[cfg(test)]
+mod against_plain;
+#[cfg(test)]
+mod plain_admission;
+#[cfg(test)]
+mod test_rows;
 #[cfg(test)]
 mod tests;

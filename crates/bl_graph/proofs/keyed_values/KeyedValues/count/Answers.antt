@@ -2,7 +2,7 @@ use Rattle.std.proofs.Common.{ap, ◌∙◌, ◌-◌, ◌^◌, min, zero-add, li
 use Rattle.std.specs.Cmp.Lexicographic.{nat_list_cmp_total}
 use Rattle.bl_outside.specs.OrderedSet as set
 use Rattle.bl_outside.proofs.Finite.{values_stay}
-use Rattle.bl_graph.specs.Sizes.{total, count_in, count_all}
+use Rattle.bl_graph.specs.Sizes.{total, count_in}
 use Rattle.bl_graph.proofs.keyed_values.KeyedValues.count.Goals as goal
 
 pub loop-values-init : goal.loop-values-init

@@ -1,6 +1,5 @@
 use Rattle.std.proofs.Common.{ap, ◌∙◌, ◌-◌, ◌^◌, min, zero-add, lit<}
 use Rattle.std.specs.Cmp.Lexicographic.{nat_list_cmp_total}
-use Rattle.bl_outside.specs.OrderedSet as set
 use Rattle.bl_outside.proofs.Finite.{values_stay}
 use Rattle.bl_graph.specs.Sizes.{total, count_in, count_all}
 use Rattle.bl_graph.proofs.owned_values.OwnedValues.count.Goals as goal
