@@ -16,3 +16,4 @@ pub mod SeenLabels
 pub mod ShortLabels
 pub mod RecordRows
 pub mod RowsLeft
+mod OneRow

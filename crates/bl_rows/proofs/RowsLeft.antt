@@ -1,6 +1,6 @@
 -- What a reader of rows has left.
 use Rattle.std.specs.Prelude.{◌≡◌, ℕ, ◌+◌, List, [], ◌∷◌, None, Some, refl}
-use Rattle.std.proofs.Common.{sym, ap, subst}
+use Rattle.std.proofs.Common.{sym, ap}
 use Rattle.std.proofs.lemmas.Option.{same_Some}
 use Rattle.bl_rows.specs.Contents.{Fields}
 use Rattle.bl_rows.specs.RowReaders.{GivesRow, Stands}

@@ -1,5 +1,5 @@
 -- The fault of a record that its rules meet first, taken one after another.
-use Rattle.std.specs.Prelude.{◌≡◌, ℕ, ◌==◌, ◌+◌, nat_le, Bool, if◌then◌else◌, List, ◌∷◌, length, sum_by, None, Some, Ok, Err}
+use Rattle.std.specs.Prelude.{◌≡◌, ◌↔◌, ℕ, ◌==◌, ◌+◌, nat_le, Bool, if◌then◌else◌, List, ◌∷◌, length, sum_by, None, Some, Ok, Err}
 use Rattle.std.specs.declared.option.Option.{Option}
 use Rattle.std.specs.declared.result.Result.{Result}
 use Rattle.std.specs.List.{list_all}
@@ -19,7 +19,7 @@ use Rattle.bl_rows.specs.Contents.{Fields}
 use Rattle.bl_value.specs.declared.row.Property.{Property as RowProperty}
 use Rattle.bl_value.specs.declared.row.Row.{Row}
 use Rattle.bl_value.specs.declared.row.Row.TheVariants.{Vertex, Edge, Bad}
-use Rattle.bl_rows.specs.Rows.{edge_label, is_from_use, is_id_use, is_label_use, is_long, is_missing, is_to_use, labels_in, properties_of, system_cell, value_count}
+use Rattle.bl_rows.specs.Rows.{IsRowOf, edge_label, is_from_use, is_id_use, is_label_use, is_long, is_missing, is_to_use, labels_in, properties_of, system_cell, value_count}
 use Rattle.bl_rows.specs.declared.system_cells.SystemColumn.{SystemColumn}
 use Rattle.bl_rows.specs.declared.system_cells.SystemColumn.TheVariants as system
 use Rattle.bl_rows.specs.declared.refused.Refused.{Refused}
@@ -104,6 +104,10 @@ row_told None columns fields = row_by columns.side columns.uses fields (properti
 
 unfoldable pub record_row : Columns → Fields → Row
 record_row columns fields = row_told (told columns fields) columns fields
+
+-- A record has one row, and it is this one.
+abbrev pub HasOneRow : Type 0
+HasOneRow = (columns : Columns) (fields : Fields) (row : Row) → IsRowOf columns fields row ↔ (row ≡ record_row columns fields)
 
 -- The refusal is what was told. Want of memory tells nothing.
 abbrev pub Tells : Option Told → Refused → Type 0

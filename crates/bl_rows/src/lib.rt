@@ -12,6 +12,7 @@
 
 mod conversion;
 mod file;
+mod laws;
 mod properties;
 mod record_digest;
 mod records;
@@ -22,6 +23,7 @@ mod whole_record;
 
 pub use conversion::convert;
 pub use file::{FILE_LIMIT, FileBytes, FileRefusal, read_file};
+pub use laws::a_record_has_one_row;
 pub use row_reader::{RowReader, start};
 
 #[cfg(test)]
