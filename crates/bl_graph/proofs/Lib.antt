@@ -11,4 +11,5 @@ pub mod Admitted
 pub mod Duplicates
 pub mod Validity
 pub mod Taken
+mod ProperRows
 mod OneWay

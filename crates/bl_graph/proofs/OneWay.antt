@@ -90,14 +90,14 @@ module _ (graph one other : Graph) (valid : IsValidGraph one) (valid2 : IsValidG
   one_vertex : (id : List ℕ) (labels : List (List ℕ)) (all : List Property) → TakesVertex graph id labels all one → TakesVertex graph id labels all other → one ≡ other
   one_vertex id labels all first second =
       let labels_same : one.labels ≡ other.labels =
-          same_all one.labels other.labels id (same_labels (map.get one.labels id) (map.get other.labels id) first.there second.there (λ label. first.labelled label ∙ sym (second.labelled label)))
-          (λ q differs. first.others q differs ∙ sym (second.others q differs)) in
+      same_all one.labels other.labels id (same_labels (map.get one.labels id) (map.get other.labels id) first.there second.there (λ label. first.labelled label ∙ sym (second.labelled label)))
+      (λ q differs. first.others q differs ∙ sym (second.others q differs)) in
       let edges_same : one.edges ≡ other.edges = first.edges ∙ sym second.edges in
       let vertices_same : one.vertex_values ≡ other.vertex_values =
-          same_owners one.vertex_values other.vertex_values (valid.full Vertex) (valid2.full Vertex)
-          (λ q key v. same_here graph Vertex id all one other first.values second.values q key v (eq_by_cmp (slice_cmp nat_cmp) q id) refl) in
+      same_owners one.vertex_values other.vertex_values (valid.full Vertex) (valid2.full Vertex)
+      (λ q key v. same_here graph Vertex id all one other first.values second.values q key v (eq_by_cmp (slice_cmp nat_cmp) q id) refl) in
       let others_same : one.edge_values ≡ other.edge_values =
-          same_owners one.edge_values other.edge_values (valid.full Edge) (valid2.full Edge) (same_there graph Vertex id all one other first.values second.values Edge (λ e. false≢true (ap is_vertex e))) in
+      same_owners one.edge_values other.edge_values (valid.full Edge) (valid2.full Edge) (same_there graph Vertex id all one other first.values second.values Edge (λ e. false≢true (ap is_vertex e))) in
       λ i. record { labels = labels_same i; edges = edges_same i; vertex_values = vertices_same i; edge_values = others_same i }
 
   one_edge : (id label from to : List ℕ) (all : List Property) → TakesEdge graph id label from to all one → TakesEdge graph id label from to all other → one ≡ other
@@ -105,10 +105,10 @@ module _ (graph one other : Graph) (valid : IsValidGraph one) (valid2 : IsValidG
       let labels_same : one.labels ≡ other.labels = first.vertices ∙ sym second.vertices in
       let edges_same : one.edges ≡ other.edges = same_all one.edges other.edges id (first.there ∙ sym second.there) (λ q differs. first.others q differs ∙ sym (second.others q differs)) in
       let vertices_same : one.vertex_values ≡ other.vertex_values =
-          same_owners one.vertex_values other.vertex_values (valid.full Vertex) (valid2.full Vertex) (same_there graph Edge id all one other first.values second.values Vertex (λ e. false≢true (sym (ap is_vertex e)))) in
+      same_owners one.vertex_values other.vertex_values (valid.full Vertex) (valid2.full Vertex) (same_there graph Edge id all one other first.values second.values Vertex (λ e. false≢true (sym (ap is_vertex e)))) in
       let others_same : one.edge_values ≡ other.edge_values =
-          same_owners one.edge_values other.edge_values (valid.full Edge) (valid2.full Edge)
-          (λ q key v. same_here graph Edge id all one other first.values second.values q key v (eq_by_cmp (slice_cmp nat_cmp) q id) refl) in
+      same_owners one.edge_values other.edge_values (valid.full Edge) (valid2.full Edge)
+      (λ q key v. same_here graph Edge id all one other first.values second.values q key v (eq_by_cmp (slice_cmp nat_cmp) q id) refl) in
       λ i. record { labels = labels_same i; edges = edges_same i; vertex_values = vertices_same i; edge_values = others_same i }
 
 pub one_way : (graph : Graph) (row : Row) (one other : Graph) → IsValidGraph one → IsValidGraph other → TakesRow graph row one → TakesRow graph row other → one ≡ other

@@ -10,7 +10,7 @@ use Rattle.bl_value.specs.declared.column.Side.TheVariants.{Vertex, Edge}
 use Rattle.bl_value.specs.declared.row.Property.{Property}
 use Rattle.bl_value.specs.declared.row.Row.{Row}
 use Rattle.bl_value.specs.declared.row.Row.TheVariants.{Vertex as vertex_row, Edge as edge_row, Bad}
-use Rattle.bl_value.specs.ValidRows.{AreApart}
+use Rattle.bl_value.specs.ValidRows.{AreApart, IsRow}
 use Rattle.bl_graph.specs.declared.verdict.Verdict.{Verdict}
 use Rattle.bl_graph.specs.declared.verdict.Verdict.TheVariants.{Changes, Duplicate, Refused}
 use Rattle.bl_graph.specs.Graph.{Graph, has_vertex, labels_of, edge_of, values_at}
@@ -33,6 +33,10 @@ abbrev pub IsProperRow : Row → Type 0
 IsProperRow (vertex_row id labels properties) = AreApart labels × AreProper properties
 IsProperRow (edge_row id label from to properties) = AreProper properties × All (λ property. property.single ≡ true) properties
 IsProperRow (Bad code column) = Unit {0}
+
+-- Valid rows are proper.
+abbrev pub ValidIsProper : Type 0
+ValidIsProper = (row : Row) → IsRow row → IsProperRow row
 
 -- the changes may be applied, each in turn
 abbrev pub DoesFit : Graph → Verdict → Type 0

@@ -22,7 +22,8 @@ fn verdict_of(changes: List<Change>) -> Verdict
 
 impl Graph {
     /// What the row does to the graph, which stays as it is. The changes of a proper row may be
-    /// applied, each in turn. Where the row is a duplicate the graph has all that it says.
+    /// applied, each in turn, and the graph after them has taken the row. Where the row is a
+    /// duplicate the graph has all that it says.
     pub fn admit(&self, update_single: bool, row: &Row) -> Result<Verdict, NoMemory>
         ensures verdict { IfOk result (λ verdict. verdict ≡ admit self.now update_single row.now) }
         ensures fit { IfOk result (λ verdict. IsProperRow row.now → DoesFit self.now verdict) }

@@ -1,5 +1,5 @@
 // Laws of the definitions. The functions do nothing: their contracts are the laws.
-ghost use Rattle.bl_graph.specs.Admitted.{AdmissionKeepsValidity};
+ghost use Rattle.bl_graph.specs.Admitted.{AdmissionKeepsValidity, ValidIsProper};
 ghost use Rattle.bl_graph.specs.Replay.{IsOneFold};
 ghost use Rattle.bl_graph.specs.ValidGraph.{KeepsValidity};
 ghost use Rattle.bl_graph.specs.WithRow.{TakesInOneWay};
@@ -12,6 +12,11 @@ pub fn replay_is_one_fold()
 /// A valid graph stays valid when changes are applied that fit, each in turn.
 pub fn changes_that_fit_keep_validity()
     ensures { KeepsValidity }
+{}
+
+/// The rows that converting a record gives are proper: valid rows are.
+pub fn valid_rows_are_proper()
+    ensures { ValidIsProper }
 {}
 
 /// A valid graph stays valid when the changes of a proper row are applied.

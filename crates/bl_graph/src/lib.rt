@@ -29,7 +29,7 @@ pub use graph::Graph;
 use keyed_values::KeyedValues;
 pub use laws::{
     a_row_is_taken_in_one_way, changes_that_fit_keep_validity, proper_rows_keep_validity,
-    replay_is_one_fold,
+    replay_is_one_fold, valid_rows_are_proper,
 };
 use owned_values::OwnedValues;
 use text_set::TextSet;
