@@ -1,0 +1,77 @@
+-- For private clauses: looking for the parts of an event.
+use Rattle.std.specs.Prelude.{◌≡◌, ℕ, codes, List, Result, Ok, Err}
+use Rattle.serde_json.specs.Data.{Data}
+use Rattle.bl_value.specs.Valid.{FitsValue, IsId, IsKey}
+use Rattle.bl_value.specs.declared.column.Side.{Side}
+use Rattle.bl_value.specs.declared.value.Value.{Value}
+use Rattle.bl_value.specs.declared.value.Value.TheVariants.{Bool, Byte, Short, Int, Long, Str, Date}
+use Rattle.bl_value.specs.declared.value_type.ValueType.{ValueType}
+use Rattle.bl_value.specs.declared.value_type.ValueType.TheVariants as type
+use Rattle.bl_value.specs.declared.change.Change.{Change}
+use Rattle.bl_value.specs.declared.change.Change.TheVariants.{AddLabel, AddEdge, AddValue, RemoveValue}
+use Rattle.bl_change.specs.EventText.{edge_data, element_data, property_type, typed_data}
+use Rattle.bl_change.specs.EventTexts.{IsJson}
+use Rattle.bl_change.specs.declared.change_in.Property.{Property}
+use Rattle.bl_change.specs.declared.operation.Operation.{Operation}
+use Rattle.bl_change.specs.declared.operation.Operation.TheVariants as operation
+use Rattle.bl_change.specs.declared.refusal.EventRefusal.{EventRefusal}
+use Rattle.bl_change.specs.declared.refusal.EventRefusal.TheVariants.{NotJson, NotAnEvent, NoMemory}
+
+-- A search for a thing that is such gives no other one, and says that there is none only where none is.
+abbrev pub Finds : {A : Type 0} → (A → Type 0) → Result A EventRefusal → Type 0
+Finds Is (Ok thing) = (other : _) → Is other → thing ≡ other
+Finds Is (Err NotAnEvent) = (other : _) → Is other → ⊥
+Finds Is (Err NotJson) = ⊥
+Finds Is (Err NoMemory) = Unit {0}
+
+-- the type of a value
+abbrev pub type_of : Value → ValueType
+type_of (Bool b) = type.Bool
+type_of (Byte n) = type.Byte
+type_of (Short n) = type.Short
+type_of (Int n) = type.Int
+type_of (Long n) = type.Long
+type_of (Str text) = type.Str
+type_of (Date seconds) = type.Date
+
+-- what a change does
+abbrev pub operation_of : Change → Operation
+operation_of (AddLabel id label) = operation.AddLabel
+operation_of (AddEdge id label from to) = operation.AddEdge
+operation_of (AddValue side id key value) = operation.AddValue side
+operation_of (RemoveValue side id key value) = operation.RemoveValue side
+
+-- the kind of its record
+abbrev pub record_type : Change → List ℕ
+record_type (AddLabel id label) = codes "vl"
+record_type (AddEdge id label from to) = codes "e"
+record_type (AddValue side id key value) = property_type side
+record_type (RemoveValue side id key value) = property_type side
+
+-- a label of a vertex in range, with this record
+abbrev pub IsLabelIn : Data → Change → Type 0
+IsLabelIn data (AddLabel id label) = IsId id × IsId label × (data ≡ element_data (codes "vl") id (codes "label") (typed_data (Str label)))
+IsLabelIn data (AddEdge id label from to) = ⊥
+IsLabelIn data (AddValue side id key value) = ⊥
+IsLabelIn data (RemoveValue side id key value) = ⊥
+
+-- the same of an edge
+abbrev pub IsEdgeIn : Data → Change → Type 0
+IsEdgeIn data (AddLabel id label) = ⊥
+IsEdgeIn data (AddEdge id label from to) = IsId id × IsId label × IsId from × IsId to × (data ≡ edge_data id from to (typed_data (Str label)))
+IsEdgeIn data (AddValue side id key value) = ⊥
+IsEdgeIn data (RemoveValue side id key value) = ⊥
+
+-- and of a value of a vertex or an edge
+pub record IsPropertyIn (data : Data) (property : Property) : Type 0 where
+  pub id : IsId property.id
+  pub key : IsKey property.key
+  pub value : FitsValue property.value
+  pub kind : List ℕ
+  pub same : data ≡ element_data kind property.id property.key (typed_data property.value)
+
+-- why a text is not read as JSON
+abbrev pub IsNoJson : List ℕ → EventRefusal → Type 0
+IsNoJson text NotJson = IsJson text → ⊥
+IsNoJson text NotAnEvent = ⊥
+IsNoJson text NoMemory = Unit {0}

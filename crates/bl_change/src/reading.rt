@@ -1,0 +1,39 @@
+// The text of an event read back.
+ghost use Rattle.std.specs.Prelude.{◌≡◌, IfOk, IfErr, Some};
+ghost use Rattle.std.specs.Str.{IsUtf8};
+ghost use Rattle.serde_json.specs.Read.{read};
+ghost use Rattle.serde_json.specs.View.{view};
+ghost use Rattle.bl_change.specs.EventTexts.{Reads};
+ghost use Rattle.bl_change.specs.Found.{IsNoJson};
+
+use crate::event_in::event_in;
+use crate::{Event, EventRefusal, print_event};
+use serde_json::Value as Json;
+use std::alloc::Global;
+
+/// The event whose text this is. Exactly the texts are accepted that [`print_event`] gives of the
+/// events in their ranges: one with other spaces, another order of members or another spelling of a
+/// number, a text or a date is NotAnEvent.
+pub fn read_event(alloc: Global, text: &[u8]) -> Result<Event, EventRefusal>
+    ensures { Reads text.now result }
+{
+    let json = json_in(alloc, text)?;
+    let event = event_in(alloc, &json)?;
+    if print_event(alloc, &event)?.as_slice() == text {
+        Ok(event)
+    } else {
+        Err(EventRefusal::NotAnEvent)
+    }
+}
+
+// The JSON of a text.
+fn json_in(alloc: Global, text: &[u8]) -> Result<Json, EventRefusal>
+    ensures ok { IfOk result (λ json. IsUtf8 text.now × (read text.now ≡ Some (view json))) }
+    ensures err { IfErr result (IsNoJson text.now) }
+{
+    match Json::from_slice(alloc, text) {
+        Ok(json) => Ok(json),
+        Err(error) if error.is_memory() => Err(EventRefusal::NoMemory),
+        Err(_) => Err(EventRefusal::NotJson),
+    }
+}
