@@ -21,7 +21,7 @@ pub record IsEvent (event : Event) : Type 0 where
 -- A text has a value: it is UTF-8 (RFC 3629) and JSON (RFC 8259) of at most 127 levels.
 pub record IsJson (text : List ℕ) : Type 0 where
   pub utf8 : IsUtf8 text
-  pub value : (data : Data) × (read text ≡ Some data)
+  pub value : (value : Data) × (read text ≡ Some value)
 
 -- the event in its ranges that has this text, or why there is none
 abbrev pub Reads : List ℕ → Result Event EventRefusal → Type 0

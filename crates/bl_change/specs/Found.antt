@@ -1,7 +1,9 @@
 -- For private clauses: looking for the parts of an event.
-use Rattle.std.specs.Prelude.{◌≡◌, ℕ, codes, List, Result, Ok, Err}
+use Rattle.std.specs.Prelude.{◌≡◌, ℕ, codes, List, Some, Result, Ok, Err}
 use Rattle.serde_json.specs.Data.{Data}
-use Rattle.bl_value.specs.Valid.{FitsValue, IsId, IsKey}
+use Rattle.serde_json.specs.Find.{get}
+use Rattle.bl_value.specs.Json.{value_data}
+use Rattle.bl_value.specs.Valid.{FitsChange, FitsValue}
 use Rattle.bl_value.specs.declared.column.Side.{Side}
 use Rattle.bl_value.specs.declared.value.Value.{Value}
 use Rattle.bl_value.specs.declared.value.Value.TheVariants.{Bool, Byte, Short, Int, Long, Str, Date}
@@ -9,9 +11,8 @@ use Rattle.bl_value.specs.declared.value_type.ValueType.{ValueType}
 use Rattle.bl_value.specs.declared.value_type.ValueType.TheVariants as type
 use Rattle.bl_value.specs.declared.change.Change.{Change}
 use Rattle.bl_value.specs.declared.change.Change.TheVariants.{AddLabel, AddEdge, AddValue, RemoveValue}
-use Rattle.bl_change.specs.EventText.{edge_data, element_data, property_type, typed_data}
+use Rattle.bl_change.specs.EventText.{change_data, property_type}
 use Rattle.bl_change.specs.EventTexts.{IsJson}
-use Rattle.bl_change.specs.declared.change_in.Property.{Property}
 use Rattle.bl_change.specs.declared.operation.Operation.{Operation}
 use Rattle.bl_change.specs.declared.operation.Operation.TheVariants as operation
 use Rattle.bl_change.specs.declared.refusal.EventRefusal.{EventRefusal}
@@ -34,6 +35,10 @@ type_of (Long n) = type.Long
 type_of (Str text) = type.Str
 type_of (Date seconds) = type.Date
 
+-- a value in the range of its type, that an object has under the name of one
+abbrev pub IsValueIn : ValueType → Data → Value → Type 0
+IsValueIn kind json value = (kind ≡ type_of value) × FitsValue value × (get (codes "value") json ≡ Some (value_data value))
+
 -- what a change does
 abbrev pub operation_of : Change → Operation
 operation_of (AddLabel id label) = operation.AddLabel
@@ -48,27 +53,9 @@ record_type (AddEdge id label from to) = codes "e"
 record_type (AddValue side id key value) = property_type side
 record_type (RemoveValue side id key value) = property_type side
 
--- a label of a vertex in range, with this record
-abbrev pub IsLabelIn : Data → Change → Type 0
-IsLabelIn data (AddLabel id label) = IsId id × IsId label × (data ≡ element_data (codes "vl") id (codes "label") (typed_data (Str label)))
-IsLabelIn data (AddEdge id label from to) = ⊥
-IsLabelIn data (AddValue side id key value) = ⊥
-IsLabelIn data (RemoveValue side id key value) = ⊥
-
--- the same of an edge
-abbrev pub IsEdgeIn : Data → Change → Type 0
-IsEdgeIn data (AddLabel id label) = ⊥
-IsEdgeIn data (AddEdge id label from to) = IsId id × IsId label × IsId from × IsId to × (data ≡ edge_data id from to (typed_data (Str label)))
-IsEdgeIn data (AddValue side id key value) = ⊥
-IsEdgeIn data (RemoveValue side id key value) = ⊥
-
--- and of a value of a vertex or an edge
-pub record IsPropertyIn (data : Data) (property : Property) : Type 0 where
-  pub id : IsId property.id
-  pub key : IsKey property.key
-  pub value : FitsValue property.value
-  pub kind : List ℕ
-  pub same : data ≡ element_data kind property.id property.key (typed_data property.value)
+-- a change in its ranges that does this, and has this record
+abbrev pub IsChangeIn : Operation → Data → Change → Type 0
+IsChangeIn does json change = (does ≡ operation_of change) × FitsChange change × (json ≡ change_data change)
 
 -- why a text is not read as JSON
 abbrev pub IsNoJson : List ℕ → EventRefusal → Type 0

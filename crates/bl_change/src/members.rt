@@ -1,5 +1,5 @@
 // Members of an object by their names.
-ghost use Rattle.std.specs.Prelude.{◌≡◌, ◌×◌, List, ℕ, ℤ, Bool, Some, MatchResult, FitsSigned, IfOk};
+ghost use Rattle.std.specs.Prelude.{◌≡◌, List, ℕ, ℤ, Bool, Some, MatchResult, FitsSigned, IfOk};
 ghost use Rattle.std.specs.Int.{w64};
 ghost use Rattle.serde_json.specs.Data.{Data, boolean, number, unsigned, string};
 ghost use Rattle.serde_json.specs.Find.{get, of_integer};

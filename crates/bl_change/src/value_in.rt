@@ -1,19 +1,18 @@
 // A value, read back from its type and its JSON.
-ghost use Rattle.std.specs.Prelude.{◌≡◌, ◌×◌, List, ℕ, ℤ, pos, Some, MatchResult, FitsSigned, IfOk};
-ghost use Rattle.std.specs.Int.{w8, w16, w32};
-ghost use Rattle.serde_json.specs.Data.{number, string};
-ghost use Rattle.serde_json.specs.Find.{get, of_integer};
+ghost use Rattle.std.specs.Prelude.{◌≡◌, ◌<◌, ◌^◌, length, IfOk};
+ghost use Rattle.serde_json.specs.Data.{string};
 ghost use Rattle.serde_json.specs.View.{view};
-ghost use Rattle.bl_value.specs.Dates.{date_text};
-ghost use Rattle.bl_value.specs.Valid.{FitsValue, IsDate, IsShortText};
+ghost use Rattle.bl_value.specs.Json.{value_data};
+ghost use Rattle.bl_value.specs.Valid.{FitsValue};
+ghost use Rattle.bl_value.specs.declared.value_type.ValueType.TheVariants as type;
 ghost use Rattle.bl_value.specs.declared.value.Value.{Value};
 ghost use Rattle.bl_change.specs.EventText.{data_type, typed_data};
-ghost use Rattle.bl_change.specs.Found.{Finds, type_of};
+ghost use Rattle.bl_change.specs.Found.{Finds, IsValueIn, type_of};
 
 use crate::EventRefusal;
 use crate::members::{bool_at, integer_at, text_at};
 use bl_outside::Text;
-use bl_value::{CellRefusal, Value, ValueType, read_cell};
+use bl_value::{CellRefusal, Value, ValueType, is_empty_cell, read_cell};
 use serde_json::Value as Json;
 use std::alloc::Global;
 
@@ -22,15 +21,8 @@ pub(crate) fn value_in(alloc: Global, json: &Json) -> Result<Value, EventRefusal
     ensures valid { IfOk result FitsValue }
     ensures found { Finds (λ value. FitsValue value × (view json.now ≡ typed_data value)) result }
 {
-    match type_named(text_at(json, "dataType")?)? {
-        ValueType::Bool => Ok(Value::Bool(bool_at(json, "value")?)),
-        ValueType::Byte => Ok(Value::Byte(byte_in(json)?)),
-        ValueType::Short => Ok(Value::Short(short_in(json)?)),
-        ValueType::Int => Ok(Value::Int(int_in(json)?)),
-        ValueType::Long => Ok(Value::Long(integer_at(json, "value")?)),
-        ValueType::Str => Ok(Value::Str(text_in(alloc, json)?)),
-        ValueType::Date => Ok(Value::Date(date_in(alloc, json)?)),
-    }
+    let kind = type_named(text_at(json, "dataType")?)?;
+    value_of(alloc, kind, json)
 }
 
 // The type that a record names.
@@ -49,56 +41,103 @@ fn type_named(name: &str) -> Result<ValueType, EventRefusal>
     }
 }
 
-fn byte_in(json: &Json) -> Result<i8, EventRefusal>
-    ensures { Finds (λ n. FitsSigned w8 n × (get (codes "value") (view json.now) ≡ Some (number (of_integer n)))) result }
+// The value, of this type.
+fn value_of(alloc: Global, kind: ValueType, json: &Json) -> Result<Value, EventRefusal>
+    ensures valid { IfOk result FitsValue }
+    ensures found { Finds (IsValueIn kind (view json.now)) result }
 {
-    let Ok(byte) = i8::try_from(integer_at(json, "value")?) else {
-        return Err(EventRefusal::NotAnEvent);
-    };
-    Ok(byte)
+    match kind {
+        ValueType::Bool => bool_in(json),
+        ValueType::Byte => byte_in(json),
+        ValueType::Short => short_in(json),
+        ValueType::Int => int_in(json),
+        ValueType::Long => long_in(json),
+        ValueType::Str => text_in(alloc, json),
+        ValueType::Date => date_in(alloc, json),
+    }
 }
 
-fn short_in(json: &Json) -> Result<i16, EventRefusal>
-    ensures { Finds (λ n. FitsSigned w16 n × (get (codes "value") (view json.now) ≡ Some (number (of_integer n)))) result }
+fn bool_in(json: &Json) -> Result<Value, EventRefusal>
+    ensures valid { IfOk result FitsValue }
+    ensures found { Finds (IsValueIn type.Bool (view json.now)) result }
 {
-    let Ok(short) = i16::try_from(integer_at(json, "value")?) else {
-        return Err(EventRefusal::NotAnEvent);
-    };
-    Ok(short)
+    let truth = bool_at(json, "value")?;
+    Ok(Value::Bool(truth))
 }
 
-fn int_in(json: &Json) -> Result<i32, EventRefusal>
-    ensures { Finds (λ n. FitsSigned w32 n × (get (codes "value") (view json.now) ≡ Some (number (of_integer n)))) result }
+fn byte_in(json: &Json) -> Result<Value, EventRefusal>
+    ensures valid { IfOk result FitsValue }
+    ensures found { Finds (IsValueIn type.Byte (view json.now)) result }
 {
-    let Ok(int) = i32::try_from(integer_at(json, "value")?) else {
-        return Err(EventRefusal::NotAnEvent);
-    };
-    Ok(int)
+    match i8::try_from(integer_at(json, "value")?) {
+        Ok(byte) => Ok(Value::Byte(byte)),
+        Err(_) => Err(EventRefusal::NotAnEvent),
+    }
 }
 
-fn text_in(alloc: Global, json: &Json) -> Result<Text, EventRefusal>
-    ensures valid { IfOk result IsShortText }
-    ensures found { Finds (λ text. IsShortText text × (get (codes "value") (view json.now) ≡ Some (string text))) result }
+fn short_in(json: &Json) -> Result<Value, EventRefusal>
+    ensures valid { IfOk result FitsValue }
+    ensures found { Finds (IsValueIn type.Short (view json.now)) result }
+{
+    match i16::try_from(integer_at(json, "value")?) {
+        Ok(short) => Ok(Value::Short(short)),
+        Err(_) => Err(EventRefusal::NotAnEvent),
+    }
+}
+
+fn int_in(json: &Json) -> Result<Value, EventRefusal>
+    ensures valid { IfOk result FitsValue }
+    ensures found { Finds (IsValueIn type.Int (view json.now)) result }
+{
+    match i32::try_from(integer_at(json, "value")?) {
+        Ok(int) => Ok(Value::Int(int)),
+        Err(_) => Err(EventRefusal::NotAnEvent),
+    }
+}
+
+fn long_in(json: &Json) -> Result<Value, EventRefusal>
+    ensures valid { IfOk result FitsValue }
+    ensures found { Finds (IsValueIn type.Long (view json.now)) result }
+{
+    let long = integer_at(json, "value")?;
+    Ok(Value::Long(long))
+}
+
+fn text_in(alloc: Global, json: &Json) -> Result<Value, EventRefusal>
+    ensures valid { IfOk result FitsValue }
+    ensures found { Finds (IsValueIn type.Str (view json.now)) result }
 {
     let text = text_at(json, "value")?;
     if text.len() > u32::MAX as usize {
         return Err(EventRefusal::NotAnEvent);
     }
-    Ok(Text::copy_of(alloc, text.as_bytes())?)
+    Ok(Value::Str(Text::copy_of(alloc, text.as_bytes())?))
 }
 
-// The seconds of a date. A text that is no date is read as none, one with another spelling as its date.
-fn date_in(alloc: Global, json: &Json) -> Result<i64, EventRefusal>
-    ensures valid { IfOk result IsDate }
-    ensures found { Finds (λ seconds. IsDate seconds × (get (codes "value") (view json.now) ≡ Some (string (date_text seconds)))) result }
+// A date in another spelling is read too: it doesn't print its text.
+fn date_in(alloc: Global, json: &Json) -> Result<Value, EventRefusal>
+    ensures valid { IfOk result FitsValue }
+    ensures found { Finds (IsValueIn type.Date (view json.now)) result }
 {
-    let text = text_at(json, "value")?.as_bytes();
-    if text.len() != 20 || text[0] == b' ' {
+    let text = text_at(json, "value")?;
+    if text.len() != 20 {
+        return Err(EventRefusal::NotAnEvent);
+    }
+    date_of(alloc, text.as_bytes())
+}
+
+// The date of a text.
+fn date_of(alloc: Global, text: &[u8]) -> Result<Value, EventRefusal>
+    requires { length text.now < 2 ^ 32 }
+    ensures valid { IfOk result FitsValue }
+    ensures found { Finds (λ value. (type.Date ≡ type_of value) × FitsValue value × (string text.now ≡ value_data value)) result }
+{
+    if is_empty_cell(ValueType::Date, text) {
         return Err(EventRefusal::NotAnEvent);
     }
     match read_cell(alloc, ValueType::Date, text) {
-        Ok(Value::Date(seconds)) => Ok(seconds),
+        Ok(date) => Ok(date),
         Err(CellRefusal::NoMemory) => Err(EventRefusal::NoMemory),
-        _ => Err(EventRefusal::NotAnEvent),
+        Err(_) => Err(EventRefusal::NotAnEvent),
     }
 }
