@@ -44,3 +44,6 @@ type_there (AddLabel id label) = refl
 type_there (AddEdge id label from to) = refl
 type_there (AddValue side id key value) = refl
 type_there (RemoveValue side id key value) = refl
+
+pub one_data : (found : Option Data) (a b : Data) → found ≡ Some a → found ≡ Some b → a ≡ b
+one_data found a b first second = cc

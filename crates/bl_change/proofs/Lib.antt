@@ -1,1 +1,2 @@
+mod EventParts
 mod Finding
