@@ -1,2 +1,3 @@
+mod Dates
 mod EventParts
 mod Finding

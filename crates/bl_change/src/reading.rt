@@ -1,13 +1,16 @@
 // The text of an event read back.
-ghost use Rattle.std.specs.Prelude.{◌≡◌, IfOk, IfErr, Some};
+ghost use Rattle.std.specs.Prelude.{◌≡◌, ◌↔◌, Some, IfOk, IfErr, IsTrue};
 ghost use Rattle.std.specs.Str.{IsUtf8};
 ghost use Rattle.serde_json.specs.Read.{read};
 ghost use Rattle.serde_json.specs.View.{view};
+ghost use Rattle.bl_value.specs.Valid.{IsPrintable};
+ghost use Rattle.bl_change.specs.EventText.{event_text};
 ghost use Rattle.bl_change.specs.EventTexts.{Reads};
 ghost use Rattle.bl_change.specs.Found.{IsNoJson};
 
 use crate::event_in::event_in;
 use crate::{Event, EventRefusal, print_event};
+use bl_outside::NoMemory;
 use serde_json::Value as Json;
 use std::alloc::Global;
 
@@ -19,7 +22,7 @@ pub fn read_event(alloc: Global, text: &[u8]) -> Result<Event, EventRefusal>
 {
     let json = json_in(alloc, text)?;
     let event = event_in(alloc, &json)?;
-    if print_event(alloc, &event)?.as_slice() == text {
+    if is_text_of(alloc, text, &event)? {
         Ok(event)
     } else {
         Err(EventRefusal::NotAnEvent)
@@ -36,4 +39,11 @@ fn json_in(alloc: Global, text: &[u8]) -> Result<Json, EventRefusal>
         Err(error) if error.is_memory() => Err(EventRefusal::NoMemory),
         Err(_) => Err(EventRefusal::NotJson),
     }
+}
+
+fn is_text_of(alloc: Global, text: &[u8], event: &Event) -> Result<bool, NoMemory>
+    requires printable { IsPrintable event.now.change }
+    ensures { IfOk result (λ same. IsTrue same ↔ (text.now ≡ event_text event.now)) }
+{
+    Ok(print_event(alloc, event)?.as_slice() == text)
 }

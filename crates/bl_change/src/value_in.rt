@@ -137,7 +137,9 @@ fn date_of(alloc: Global, text: &[u8]) -> Result<Value, EventRefusal>
     }
     match read_cell(alloc, ValueType::Date, text) {
         Ok(date) => Ok(date),
-        Err(CellRefusal::NoMemory) => Err(EventRefusal::NoMemory),
-        Err(_) => Err(EventRefusal::NotAnEvent),
+        Err(refusal) => match refusal {
+            CellRefusal::NoMemory => Err(EventRefusal::NoMemory),
+            _ => Err(EventRefusal::NotAnEvent),
+        },
     }
 }
