@@ -1,3 +1,5 @@
 mod Dates
 mod EventParts
+mod EventsPrinted
 mod Finding
+mod JsonTexts

@@ -22,7 +22,8 @@ pub fn read_event(alloc: Global, text: &[u8]) -> Result<Event, EventRefusal>
 {
     let json = json_in(alloc, text)?;
     let event = event_in(alloc, &json)?;
-    if is_text_of(alloc, text, &event)? {
+    let same = is_text_of(alloc, text, &event)?;
+    if same {
         Ok(event)
     } else {
         Err(EventRefusal::NotAnEvent)
