@@ -3,3 +3,4 @@ mod EventParts
 mod EventsPrinted
 mod Finding
 mod JsonTexts
+mod ReadTexts
