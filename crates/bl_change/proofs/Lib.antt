@@ -1,5 +1,6 @@
 mod Dates
 mod EventParts
+mod EventsOnce
 mod EventsPrinted
 mod Finding
 mod JsonTexts
