@@ -1,5 +1,5 @@
 -- Where an event's record has its parts.
-use Rattle.std.proofs.Common.{◌≡◌, ℕ, codes, Bool, true, false, List, Option, Some, None, refl, sym, ap}
+use Rattle.std.proofs.Common.{◌≡◌, ℕ, codes, Bool, true, false, List, Option, Some, None, refl, ap}
 use Rattle.std.specs.Prelude.{is_some, option_map}
 use Rattle.serde_json.specs.Data.{Data, string}
 use Rattle.serde_json.specs.Find.{get}

@@ -1,8 +1,8 @@
 -- No two events have one text.
-use Rattle.std.proofs.Common.{◌≡◌, ◌∙◌, ℕ, ℤ, pos, negsuc, List, [], ◌∷◌, Some, Option, codes, get_or, refl, sym, ap, inl, inr, ◌⊎◌}
+use Rattle.std.proofs.Common.{◌≡◌, ◌∙◌, ℕ, ℤ, pos, negsuc, List, ◌∷◌, Some, codes, get_or, refl, sym, ap, inl, inr, ◌⊎◌}
 use Rattle.std.specs.Prelude.{◌==◌, if◌then◌else◌, is_some, Result, Ok, Err}
-use Rattle.serde_json.specs.Data.{Data, Num, number, unsigned, string}
-use Rattle.serde_json.specs.Find.{as_integer, get, of_integer}
+use Rattle.serde_json.specs.Data.{number, unsigned}
+use Rattle.serde_json.specs.Find.{get, of_integer}
 use Rattle.serde_json.specs.Read.{read}
 use Rattle.bl_value.specs.Cells.{cell}
 use Rattle.bl_value.specs.Dates.{date_text}

@@ -1,10 +1,10 @@
 -- The text of an event is read as the value of the event.
-use Rattle.std.proofs.Common.{◌≡◌, ◌∙◌, ℕ, suc, ◌<◌, ◌^◌, Bool as Truth, true, false, List, codes, refl, sym, ap, arith, Some}
+use Rattle.std.proofs.Common.{◌≡◌, ℕ, suc, ◌<◌, ◌^◌, Bool as Truth, true, false, List, codes, refl, arith, Some}
 use Rattle.std.specs.Prelude.{Ok, Err, if◌then◌else◌}
 use Rattle.std.specs.Str.{IsUtf8, is_utf8}
 use Rattle.std.proofs.lemmas.Str.{IsUtf8-from_is_utf8}
 use Rattle.json.proofs.Printed.Utf8.{IsUtf8-are_ascii, are_ascii}
-use Rattle.serde_json.specs.Data.{Data, boolean, number, unsigned, string, member, no_members}
+use Rattle.serde_json.specs.Data.{Data, number, unsigned, string, member, no_members}
 use Rattle.serde_json.specs.Read.{read}
 use Rattle.bl_value.specs.Cells.{text_cell}
 use Rattle.bl_value.specs.Dates.{date_text}

@@ -1,7 +1,6 @@
 -- Compact texts are read back: of single values, and of objects put together of them.
-use Rattle.std.proofs.Common.{◌≡◌, ◌∙◌, ℕ, suc, ◌<◌, ◌≤◌, ◌^◌, ℤ, pos, negsuc, Bool, true, false, List, [], ◌∷◌, ◌++◌, Some, option_and_then, codes, decimal, refl, sym, ap, subst, arith, append-nil, FitsSigned}
+use Rattle.std.proofs.Common.{◌≡◌, ◌∙◌, ℕ, suc, ◌<◌, ◌≤◌, ◌^◌, ℤ, pos, negsuc, Bool, true, false, List, [], ◌∷◌, ◌++◌, Some, option_and_then, decimal, refl, sym, ap, arith, append-nil}
 use Rattle.std.specs.Prelude.{option_map}
-use Rattle.std.specs.Int.{w64}
 use Rattle.std.specs.Int.Signed.{mag}
 use Rattle.std.specs.Fmt.{signed_decimal}
 use Rattle.std.specs.Str.{IsUtf8}
@@ -70,9 +69,9 @@ one_more levels name value rest utf8 is others = record {
   numbers = (is.numbers, others.numbers);
   shallow = let first = is.shallow in let below = others.shallow in omega arith;
   utf8 = λ later.
-    IsUtf8-append (comma_if later) _ (comma_utf8 later)
-    (IsUtf8-append (quoted name) _ (IsUtf8-quoted name utf8)
-    (IsUtf8-append (58 ∷ []) _ (IsUtf8-are_ascii (58 ∷ []) refl) (IsUtf8-append (compact_text value) _ is.utf8 (others.utf8 true))));
+      IsUtf8-append (comma_if later) _ (comma_utf8 later)
+      (IsUtf8-append (quoted name) _ (IsUtf8-quoted name utf8)
+      (IsUtf8-append (58 ∷ []) _ (IsUtf8-are_ascii (58 ∷ []) refl) (IsUtf8-append (compact_text value) _ is.utf8 (others.utf8 true))));
 }
 
 pub object_printed : (levels : ℕ) (members : Members) → of_members (members_outline members) no_members ≡ Some members → ArePrinted levels members → IsPrinted (suc levels) (object members)

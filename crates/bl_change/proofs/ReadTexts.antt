@@ -1,5 +1,5 @@
 -- What reading a text gives, from what is found in its value.
-use Rattle.std.proofs.Common.{◌≡◌, ◌∙◌, ℕ, List, Some, sym, ap, subst, inl, inr, refl, ◌⊎◌}
+use Rattle.std.proofs.Common.{◌≡◌, ◌∙◌, ℕ, List, Some, sym, ap, subst}
 use Rattle.std.specs.Prelude.{Result, Ok, Err}
 use Rattle.std.specs.Result.{IsErrAnd}
 use Rattle.std.specs.Str.{IsUtf8}
@@ -35,7 +35,9 @@ none_found text value result refusal given utf8 is not =
 -- where the one that is found has another text, none has this one
 pub other_found : (text : List ℕ) (value : Data) (event : Event) → IsUtf8 text → read text ≡ Some value → Finds (λ event. IsEvent event × (value ≡ event_data event)) (Ok event) →
     (text ≡ event_text event → ⊥) → Reads text (Err NotAnEvent)
-other_found text value event utf8 is finds differ =
-    (record { utf8 = utf8; value = (value, is) }, λ other valid same.
+other_found text value event utf8 is finds differ = (
+  record { utf8 = utf8; value = (value, is) },
+  λ other valid same.
       let found = finds other (valid, value_of_text text value other is valid same) in
-      differ (same ∙ ap event_text (sym found)))
+      differ (same ∙ ap event_text (sym found)),
+)

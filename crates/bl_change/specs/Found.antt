@@ -4,7 +4,6 @@ use Rattle.serde_json.specs.Data.{Data}
 use Rattle.serde_json.specs.Find.{get}
 use Rattle.bl_value.specs.Json.{value_data}
 use Rattle.bl_value.specs.Valid.{FitsChange, FitsValue}
-use Rattle.bl_value.specs.declared.column.Side.{Side}
 use Rattle.bl_value.specs.declared.value.Value.{Value}
 use Rattle.bl_value.specs.declared.value.Value.TheVariants.{Bool, Byte, Short, Int, Long, Str, Date}
 use Rattle.bl_value.specs.declared.value_type.ValueType.{ValueType}

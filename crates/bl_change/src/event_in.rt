@@ -6,7 +6,7 @@ ghost use Rattle.bl_change.specs.EventTexts.{IsEvent};
 ghost use Rattle.bl_change.specs.Found.{Finds};
 
 use crate::change_in::change_in;
-use crate::members::{member_at, number_at, text_at};
+use crate::members::{member_at, number_at, ordinal_at, text_at};
 use crate::{Event, EventRefusal};
 use serde_json::Value as Json;
 use std::alloc::Global;
@@ -30,15 +30,12 @@ pub(crate) fn event_in(alloc: Global, json: &Json) -> Result<Event, EventRefusal
     })
 }
 
-// The numbers of a commit and of an event in it, from 1.
+// The numbers of a commit and of an event in it.
 fn place_in(json: &Json) -> Result<(u64, u64), EventRefusal>
     ensures valid { IfOk result (λ place. (1 ≤ place.0) × (1 ≤ place.1)) }
     ensures found { Finds (λ place. (1 ≤ place.0) × (1 ≤ place.1) × (view json.now ≡ place_data place.0 place.1)) result }
 {
-    let commit = number_at(json, "commitNum")?;
-    let op = number_at(json, "opNum")?;
-    if commit == 0 || op == 0 {
-        return Err(EventRefusal::NotAnEvent);
-    }
+    let commit = ordinal_at(json, "commitNum")?;
+    let op = ordinal_at(json, "opNum")?;
     Ok((commit, op))
 }

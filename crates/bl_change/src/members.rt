@@ -1,5 +1,5 @@
 // Members of an object by their names.
-ghost use Rattle.std.specs.Prelude.{◌≡◌, List, ℕ, ℤ, Bool, Some, MatchResult, FitsSigned, IfOk};
+ghost use Rattle.std.specs.Prelude.{◌≡◌, ◌≤◌, List, ℕ, ℤ, Bool, Some, MatchResult, FitsSigned, IfOk};
 ghost use Rattle.std.specs.Int.{w64};
 ghost use Rattle.serde_json.specs.Data.{Data, boolean, number, unsigned, string};
 ghost use Rattle.serde_json.specs.Find.{get, of_integer};
@@ -35,6 +35,18 @@ pub(crate) fn number_at(json: &Json, name: &str) -> Result<u64, EventRefusal>
     let Some(number) = member_at(json, name)?.as_u64() else {
         return Err(EventRefusal::NotAnEvent);
     };
+    Ok(number)
+}
+
+/// A number from 1.
+pub(crate) fn ordinal_at(json: &Json, name: &str) -> Result<u64, EventRefusal>
+    ensures valid { IfOk result (λ n. 1 ≤ n) }
+    ensures found { Finds (λ n. (1 ≤ n) × (get name.now (view json.now) ≡ Some (number (unsigned n)))) result }
+{
+    let number = number_at(json, name)?;
+    if number == 0 {
+        return Err(EventRefusal::NotAnEvent);
+    }
     Ok(number)
 }
 

@@ -1,10 +1,6 @@
-use Rattle.std.proofs.Common.{◌≡◌, codes, List, ℕ, Some, refl, ap, ◌∙◌}
-use Rattle.serde_json.specs.Data.{string}
-use Rattle.serde_json.specs.View.{view}
+use Rattle.std.proofs.Common.{codes, refl, ap, ◌∙◌}
 use Rattle.serde_json.specs.Find.{get}
-use Rattle.bl_value.specs.declared.change.Change.{Change}
-use Rattle.bl_change.specs.EventText.{change_data}
-use Rattle.bl_change.specs.Found.{Finds, operation_of, record_type}
+use Rattle.bl_change.specs.Found.{operation_of, record_type}
 use Rattle.bl_change.proofs.Finding.{handed_on, narrowed, one_text, type_there}
 use Rattle.bl_change.proofs.change_in.change_in.Goals as goal
 

@@ -1,6 +1,6 @@
-use Rattle.std.proofs.Common.{◌≡◌, ◌∙◌, codes, is_some, ap}
+use Rattle.std.proofs.Common.{◌∙◌, codes, is_some, ap}
 use Rattle.serde_json.specs.Find.{get}
-use Rattle.bl_change.specs.EventText.{change_data, event_data, op_name, place_data}
+use Rattle.bl_change.specs.EventText.{op_name, place_data}
 use Rattle.bl_change.proofs.Finding.{handed_on, one_data, one_text}
 use Rattle.bl_change.proofs.EventParts.{event_is, last_there, op_there, there_is}
 use Rattle.bl_change.proofs.event_in.event_in.Goals as goal

@@ -1,4 +1,3 @@
-use Rattle.std.proofs.Common.{◌≡◌, ◌∙◌, sym}
 use Rattle.serde_json.specs.View.{view}
 use Rattle.bl_change.proofs.ReadTexts.{none_found, other_found}
 use Rattle.bl_change.proofs.reading.read_event.Goals as goal

@@ -1,4 +1,4 @@
-use Rattle.std.proofs.Common.{◌≡◌, inl, inr}
+use Rattle.std.proofs.Common.{inl, inr}
 use Rattle.bl_change.proofs.Dates.{date_cell}
 use Rattle.bl_change.proofs.value_in.date_of.Goals as goal
 
@@ -13,6 +13,6 @@ pub returns-in_default : goal.returns-in_default
 returns-in_default c = record {
   valid = tt;
   found = λ value is.
-    let found = date_cell c.args.text.now value is in
-    elim c.in-Err.ensures.refusal [ inl memory ↦ c.in_default.not-NoMemory memory | inr none ↦ cc (found, none) ];
+      let found = date_cell c.args.text.now value is in
+      elim c.in-Err.ensures.refusal [ inl memory ↦ c.in_default.not-NoMemory memory | inr none ↦ cc (found, none) ];
 }

@@ -1,9 +1,7 @@
-use Rattle.std.proofs.Common.{◌≡◌, codes, refl, ap}
-use Rattle.serde_json.specs.View.{view}
+use Rattle.std.proofs.Common.{codes, refl, ap}
 use Rattle.serde_json.specs.Find.{get}
-use Rattle.bl_value.specs.declared.value_type.ValueType.TheVariants as type
-use Rattle.bl_change.specs.EventText.{data_type, typed_data}
-use Rattle.bl_change.specs.Found.{Finds, type_of}
+use Rattle.bl_change.specs.EventText.{data_type}
+use Rattle.bl_change.specs.Found.{type_of}
 use Rattle.bl_change.proofs.Finding.{handed_on, narrowed, one_text}
 use Rattle.bl_change.proofs.value_in.value_in.Goals as goal
 
