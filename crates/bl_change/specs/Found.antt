@@ -17,12 +17,16 @@ use Rattle.bl_change.specs.declared.operation.Operation.TheVariants as operation
 use Rattle.bl_change.specs.declared.refusal.EventRefusal.{EventRefusal}
 use Rattle.bl_change.specs.declared.refusal.EventRefusal.TheVariants.{NotJson, NotAnEvent, NoMemory}
 
--- A search for a thing that is such gives no other one, and says that there is none only where none is.
-abbrev pub Finds : {A : Type 0} → (A → Type 0) → Result A EventRefusal → Type 0
+-- A search for a thing that is such says that there is none only where none is.
+abbrev pub FindsNone : {Thing : Type 0} → (Thing → Type 0) → EventRefusal → Type 0
+FindsNone Is NotAnEvent = (thing : _) → Is thing → ⊥
+FindsNone Is NotJson = ⊥
+FindsNone Is NoMemory = Unit {0}
+
+-- And it gives a thing only where no other is such.
+abbrev pub Finds : {Thing : Type 0} → (Thing → Type 0) → Result Thing EventRefusal → Type 0
 Finds Is (Ok thing) = (other : _) → Is other → thing ≡ other
-Finds Is (Err NotAnEvent) = (other : _) → Is other → ⊥
-Finds Is (Err NotJson) = ⊥
-Finds Is (Err NoMemory) = Unit {0}
+Finds Is (Err refusal) = FindsNone Is refusal
 
 -- the type of a value
 abbrev pub type_of : Value → ValueType

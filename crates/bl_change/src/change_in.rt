@@ -14,10 +14,12 @@ use bl_value::{Change, Side};
 use serde_json::Value as Json;
 use std::alloc::Global;
 
-/// The change whose record this is, with its `op`.
+/// The change that may have this record, with its `op`: no other one has it.
 pub(crate) fn change_in(alloc: Global, json: &Json, op: &str) -> Result<Change, EventRefusal>
     ensures valid { IfOk result FitsChange }
-    ensures found { Finds (λ change. FitsChange change × (op.now ≡ op_name change) × (view json.now ≡ change_data change)) result }
+    ensures found { Finds
+        (λ change. FitsChange change × (op.now ≡ op_name change)
+        × (view json.now ≡ change_data change)) result }
 {
     let operation = operation_named(text_at(json, "type")?, op)?;
     change_of(alloc, operation, json)

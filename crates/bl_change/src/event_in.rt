@@ -11,8 +11,7 @@ use crate::{Event, EventRefusal};
 use serde_json::Value as Json;
 use std::alloc::Global;
 
-/// The event whose record this is. A record that an event prints is found to be that event's, but
-/// what is found need not print this very record.
+/// The event that may have this record: no other one has it.
 pub(crate) fn event_in(alloc: Global, json: &Json) -> Result<Event, EventRefusal>
     ensures valid { IfOk result IsEvent }
     ensures found { Finds (λ event. IsEvent event × (view json.now ≡ event_data event)) result }
@@ -33,7 +32,9 @@ pub(crate) fn event_in(alloc: Global, json: &Json) -> Result<Event, EventRefusal
 // The numbers of a commit and of an event in it.
 fn place_in(json: &Json) -> Result<(u64, u64), EventRefusal>
     ensures valid { IfOk result (λ place. (1 ≤ place.0) × (1 ≤ place.1)) }
-    ensures found { Finds (λ place. (1 ≤ place.0) × (1 ≤ place.1) × (view json.now ≡ place_data place.0 place.1)) result }
+    ensures found { Finds
+        (λ place. (1 ≤ place.0) × (1 ≤ place.1) × (view json.now ≡ place_data place.0 place.1))
+        result }
 {
     let commit = ordinal_at(json, "commitNum")?;
     let op = ordinal_at(json, "opNum")?;

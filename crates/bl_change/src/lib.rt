@@ -4,8 +4,9 @@
 //! [`read_event`] gives the event back, or says why the text is none. A text is read by looking up
 //! what an event would have there, printing that event and comparing.
 //!
-//! Words of the contracts: `specs/EventText` (the text of an event), `specs/EventTexts` (the ranges of
-//! its parts, and what reading gives). This crate stands on `bl_value`.
+//! Words of the contracts: `specs/EventText` (the text of an event), `specs/EventTexts` (the ranges
+//! of its parts, and what reading gives); `specs/Found` is for the private ones. This crate stands on
+//! `bl_value`.
 #![tactic(auto)]
 
 mod change_in;

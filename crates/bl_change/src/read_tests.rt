@@ -1,6 +1,4 @@
 // Texts of events that are read, and texts that are not.
-ghost use Rattle.std.specs.Prelude.{IfOk};
-ghost use Rattle.bl_change.specs.EventTexts.{Reads};
 
 use crate::tests::{Kind, change};
 use crate::{
@@ -8,7 +6,7 @@ use crate::{
     no_two_events_have_one_text, print_event, read_event,
 };
 use bl_outside::Text;
-use bl_value::{Change, Side, Value};
+use bl_value::{Change, Side, Value, date_texts_are_read_back};
 use std::alloc::{AllocError, Global};
 
 fn is_same_change(a: &Change, b: &Change) -> bool {
@@ -323,6 +321,7 @@ fn values_are_read_by_their_types(rt: HostRuntime) {
         let value = value_read(rt.alloc(), kind, json).expect(&rt, json);
         assert!(rt; value == want, "{kind} {json}");
     }
+    date_texts_are_read_back();
 }
 
 #[test]

@@ -14,9 +14,12 @@ use bl_outside::NoMemory;
 use serde_json::Value as Json;
 use std::alloc::Global;
 
-/// The event whose text this is. Exactly the texts are accepted that [`print_event`] gives of the
-/// events in their ranges: one with other spaces, another order of members or another spelling of a
-/// number, a text or a date is NotAnEvent.
+/// The event whose text this is. Just those texts are accepted that [`print_event`] gives of the
+/// events in their ranges.
+///
+/// NotJson: the text is not UTF-8, or no JSON of at most 127 levels. NotAnEvent: it is JSON, but no
+/// event has this text, as where it has a space, other members or another order of them, another
+/// spelling of a number, a text or a date, or a part out of its range. NoMemory: memory ran out.
 pub fn read_event(alloc: Global, text: &[u8]) -> Result<Event, EventRefusal>
     ensures { Reads text.now result }
 {

@@ -9,7 +9,7 @@ use bl_outside::NoMemory;
 pub enum EventRefusal {
     /// The text is not UTF-8, or no JSON of at most 127 levels.
     NotJson,
-    /// It is JSON, but not the text that [`print_event`](crate::print_event) gives of an event in its ranges.
+    /// It is JSON, but the text of no event in its ranges.
     NotAnEvent,
     NoMemory,
 }

@@ -16,10 +16,11 @@ use bl_value::{CellRefusal, Value, ValueType, is_empty_cell, read_cell};
 use serde_json::Value as Json;
 use std::alloc::Global;
 
-/// The value that this is the JSON of, with its type.
+/// The value that may have this JSON, with its type: no other one has it.
 pub(crate) fn value_in(alloc: Global, json: &Json) -> Result<Value, EventRefusal>
     ensures valid { IfOk result FitsValue }
-    ensures found { Finds (λ value. FitsValue value × (view json.now ≡ typed_data value)) result }
+    ensures found { Finds
+        (λ value. FitsValue value × (view json.now ≡ typed_data value)) result }
 {
     let kind = type_named(text_at(json, "dataType")?)?;
     value_of(alloc, kind, json)
@@ -27,7 +28,9 @@ pub(crate) fn value_in(alloc: Global, json: &Json) -> Result<Value, EventRefusal
 
 // The type that a record names.
 fn type_named(name: &str) -> Result<ValueType, EventRefusal>
-    ensures { Finds (λ kind. (value : Value) × (kind ≡ type_of value) × (name.now ≡ data_type value)) result }
+    ensures { Finds
+        (λ kind. (value : Value) × (kind ≡ type_of value) × (name.now ≡ data_type value))
+        result }
 {
     match name {
         "Boolean" => Ok(ValueType::Bool),
@@ -114,7 +117,7 @@ fn text_in(alloc: Global, json: &Json) -> Result<Value, EventRefusal>
     Ok(Value::Str(Text::copy_of(alloc, text.as_bytes())?))
 }
 
-// A date in another spelling is read too: it doesn't print its text.
+// The text of a date has 20 bytes.
 fn date_in(alloc: Global, json: &Json) -> Result<Value, EventRefusal>
     ensures valid { IfOk result FitsValue }
     ensures found { Finds (IsValueIn type.Date (view json.now)) result }
@@ -126,11 +129,13 @@ fn date_in(alloc: Global, json: &Json) -> Result<Value, EventRefusal>
     date_of(alloc, text.as_bytes())
 }
 
-// The date of a text.
+// The date of a text. One in another spelling is found here too, and prints another text.
 fn date_of(alloc: Global, text: &[u8]) -> Result<Value, EventRefusal>
     requires { length text.now < 2 ^ 32 }
     ensures valid { IfOk result FitsValue }
-    ensures found { Finds (λ value. (type.Date ≡ type_of value) × FitsValue value × (string text.now ≡ value_data value)) result }
+    ensures found { Finds
+        (λ value. (type.Date ≡ type_of value) × FitsValue value
+        × (string text.now ≡ value_data value)) result }
 {
     if is_empty_cell(ValueType::Date, text) {
         return Err(EventRefusal::NotAnEvent);
