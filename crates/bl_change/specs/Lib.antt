@@ -1,1 +1,3 @@
 pub mod EventText
+pub mod EventTexts
+pub mod Found

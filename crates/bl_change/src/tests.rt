@@ -8,7 +8,7 @@ use bl_value::{Change, Side, Value};
 use std::alloc::Global;
 
 #[derive(Clone, Copy)]
-enum Kind {
+pub(crate) enum Kind {
     Label,
     Edge,
     Add(Side),
@@ -26,7 +26,7 @@ fn word(alloc: Global, text: &str) -> Result<Text, NoMemory>
     Text::copy_of(alloc, text.as_bytes())
 }
 
-fn change(alloc: Global, kind: Kind, words: [&str; 4]) -> Result<Change, NoMemory>
+pub(crate) fn change(alloc: Global, kind: Kind, words: [&str; 4]) -> Result<Change, NoMemory>
     ensures { IfOk result IsChange }
 {
     let id = word(alloc, words[0])?;

@@ -1,4 +1,6 @@
 mod Arrays
+mod CivilDays
+pub mod DateTexts
 mod Days
 mod Distinct
 mod Integers

@@ -1,0 +1,7 @@
+mod Dates
+mod EventParts
+mod EventsOnce
+mod EventsPrinted
+mod Finding
+mod JsonTexts
+mod ReadTexts
