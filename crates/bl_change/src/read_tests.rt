@@ -9,61 +9,6 @@ use bl_outside::Text;
 use bl_value::{Change, Side, Value, date_texts_are_read_back};
 use std::alloc::{AllocError, Global};
 
-fn is_same_change(a: &Change, b: &Change) -> bool {
-    match (a, b) {
-        (
-            Change::AddLabel { id, label },
-            Change::AddLabel {
-                id: other_id,
-                label: other_label,
-            },
-        ) => id == other_id && label == other_label,
-        (
-            Change::AddEdge {
-                id,
-                label,
-                from,
-                to,
-            },
-            Change::AddEdge {
-                id: other_id,
-                label: other_label,
-                from: other_from,
-                to: other_to,
-            },
-        ) => id == other_id && label == other_label && from == other_from && to == other_to,
-        (
-            Change::AddValue {
-                side,
-                id,
-                key,
-                value,
-            },
-            Change::AddValue {
-                side: other_side,
-                id: other_id,
-                key: other_key,
-                value: other_value,
-            },
-        ) => side == other_side && id == other_id && key == other_key && value == other_value,
-        (
-            Change::RemoveValue {
-                side,
-                id,
-                key,
-                value,
-            },
-            Change::RemoveValue {
-                side: other_side,
-                id: other_id,
-                key: other_key,
-                value: other_value,
-            },
-        ) => side == other_side && id == other_id && key == other_key && value == other_value,
-        _ => false,
-    }
-}
-
 #[test]
 fn records_are_read_as_their_events(rt: HostRuntime) {
     for (kind, words, numbers, text) in [
@@ -109,7 +54,7 @@ fn records_are_read_as_their_events(rt: HostRuntime) {
         let (commit, op, moment, last) = numbers;
         assert!(rt; event.commit == commit && event.op == op, "{text}");
         assert!(rt; event.moment == moment && event.last == last, "{text}");
-        assert!(rt; is_same_change(&event.change, &want), "{text}");
+        assert!(rt; event.change == want, "{text}");
         let again = print_event(rt.alloc(), &event).expect(&rt, "memory");
         assert!(rt; again.as_slice() == text.as_bytes(), "{text}");
     }

@@ -1,7 +1,7 @@
 // Admission once more, plain and slow: a graph is one list of facts, each the change that added it,
 // and each question is a pass over that list.
 use crate::Verdict;
-use crate::test_rows::{is_same_change, text};
+use crate::test_rows::text;
 use bl_outside::{List, NoMemory, Text};
 use bl_value::{Change, LogCode, Property, Row, Side, Value};
 use std::alloc::Global;
@@ -22,10 +22,7 @@ impl Facts {
     }
 
     fn has(&self, fact: &Change) -> bool {
-        self.facts
-            .as_slice()
-            .iter()
-            .any(|other| is_same_change(other, fact))
+        self.facts.as_slice().contains(fact)
     }
 
     pub fn has_vertex(&self, vertex: &Text) -> bool {
@@ -262,7 +259,7 @@ impl Facts {
     fn forget(&mut self, fact: &Change) -> Result<(), NoMemory> {
         let mut left = List::new(self.alloc);
         for other in self.facts.as_slice() {
-            if !is_same_change(other, fact) {
+            if other != fact {
                 left.push(other.copy(self.alloc)?)?;
             }
         }

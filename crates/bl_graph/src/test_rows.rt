@@ -170,71 +170,10 @@ pub fn verdict(alloc: Global, answer: Answer) -> Result<Verdict, NoMemory> {
     }
 }
 
-/// Whether two changes are the same in all their parts.
-pub fn is_same_change(one: &Change, other: &Change) -> bool {
-    match (one, other) {
-        (Change::AddLabel { id, label }, Change::AddLabel { id: i, label: l }) => {
-            id == i && label == l
-        }
-        (
-            Change::AddEdge {
-                id,
-                label,
-                from,
-                to,
-            },
-            Change::AddEdge {
-                id: i,
-                label: l,
-                from: f,
-                to: t,
-            },
-        ) => id == i && label == l && from == f && to == t,
-        (
-            Change::AddValue {
-                side,
-                id,
-                key,
-                value,
-            },
-            Change::AddValue {
-                side: s,
-                id: i,
-                key: k,
-                value: v,
-            },
-        ) => side == s && id == i && key == k && value == v,
-        (
-            Change::RemoveValue {
-                side,
-                id,
-                key,
-                value,
-            },
-            Change::RemoveValue {
-                side: s,
-                id: i,
-                key: k,
-                value: v,
-            },
-        ) => side == s && id == i && key == k && value == v,
-        _ => false,
-    }
-}
-
-fn are_same_changes(ones: &List<Change>, others: &List<Change>) -> bool {
-    ones.len() == others.len()
-        && ones
-            .as_slice()
-            .iter()
-            .zip(others.as_slice())
-            .all(|(one, other)| is_same_change(one, other))
-}
-
 /// Whether two verdicts are the same, change by change.
 pub fn is_same_verdict(one: &Verdict, other: &Verdict) -> bool {
     match (one, other) {
-        (Verdict::Changes(ones), Verdict::Changes(others)) => are_same_changes(ones, others),
+        (Verdict::Changes(ones), Verdict::Changes(others)) => ones.as_slice() == others.as_slice(),
         (Verdict::Duplicate, Verdict::Duplicate) => true,
         (Verdict::Refused(code, column), Verdict::Refused(c, n)) => code == c && column == n,
         _ => false,

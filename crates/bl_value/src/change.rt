@@ -6,7 +6,7 @@ use bl_outside::{List, NoMemory, Text};
 use std::alloc::Global;
 
 /// One change of the graph. A list of changes, applied from left to right, is what a load writes.
-#[derive(Debug, Drop)]
+#[derive(Debug, PartialEq, Eq, Drop)]
 pub enum Change {
     /// A label of a vertex, which is new where it had none.
     AddLabel {
