@@ -1,16 +1,16 @@
 -- The text of a date is read as that date.
-use Rattle.std.proofs.Common.{◌≡◌, ℕ, ◌+◌, ◌-◌, ◌*◌, ◌/◌, ◌%◌, ◌<◌, ◌≤◌, Bool, true, false, List, [], ◌∷◌, ◌++◌, refl, sym, ap, ◌∙◌, arith, le-leb, lt-ltb, ne_eqb, ℤ, pos, ◌+ℤ◌, ◌*ℤ◌, subst}
-use Rattle.std.specs.Prelude.{◌==◌, ◌&&◌, if◌then◌else◌, Ok, Err, nat_le, nat_lt, unsigned_abs, drop}
+use Rattle.std.proofs.Common.{◌≡◌, ℕ, ◌+◌, ◌*◌, ◌/◌, ◌%◌, ◌<◌, ◌≤◌, true, List, [], ◌∷◌, ◌++◌, refl, sym, ap, ◌∙◌, arith, le-leb, lt-ltb, ne_eqb, ℤ, pos, ◌+ℤ◌, ◌*ℤ◌}
+use Rattle.std.specs.Prelude.{if◌then◌else◌, Ok, Err, unsigned_abs}
 use Rattle.std.specs.Int.{int_div_euclid, int_rem_euclid}
 use Rattle.std.specs.Char.{is_ascii_digit}
 use Rattle.std.specs.Str.{is_utf8}
 use Rattle.std.proofs.lemmas.Str.{is_utf8-from_IsUtf8}
 use Rattle.json.proofs.Printed.Utf8.{IsUtf8-are_ascii}
 use Rattle.jiff_core.specs.Calendar.{days_from_civil, days_in_month}
-use Rattle.jiff_core.proofs.SignedLemmas.{signed_arith, int_div_euclid-parts, int_rem_euclid-parts, unsigned_abs-parts}
+use Rattle.jiff_core.proofs.SignedLemmas.{signed_arith, int_rem_euclid-parts, unsigned_abs-parts}
 use Rattle.jiff_core.proofs.CalendarLemmas.{days_in_month_bounds}
-use Rattle.bl_value.specs.Cells.{cell, date, has_date_form, is_day, is_time, text_cell, two_digits, without_spaces, year_of, month_of, day_of, hour_of, minute_of, second_of}
-use Rattle.bl_value.specs.Dates.{date_text, day_text, in_two, in_four, time_text, year_at, month_at, day_at}
+use Rattle.bl_value.specs.Cells.{cell, date, has_date_form, is_day, is_time, text_cell, without_spaces, year_of, month_of, day_of, hour_of, minute_of, second_of}
+use Rattle.bl_value.specs.Dates.{date_text, in_two, year_at, month_at, day_at}
 use Rattle.bl_value.specs.Valid.{IsDate}
 use Rattle.bl_value.specs.declared.value.Value.TheVariants.{Date}
 use Rattle.bl_value.specs.declared.value_type.ValueType.TheVariants.{Date as DateType}
@@ -44,8 +44,22 @@ record AreSmall (century year month day hour minute second : ℕ) : Type 0 where
 
 has_form_of : (c y m d h mi s : ℕ) → AreSmall c y m d h mi s → has_date_form (form_of c y m d h mi s) ≡ true
 has_form_of c y m d h mi s small =
-    rw (tens c small.century_small, ones c, tens y small.year_small, ones y, tens m small.month_small, ones m, tens d small.day_small, ones d,
-    tens h (let hour = small.hour_small in omega arith), ones h, tens mi (let minute = small.minute_small in omega arith), ones mi, tens s (let second = small.second_small in omega arith), ones s) refl
+    rw (
+      tens c small.century_small,
+      ones c,
+      tens y small.year_small,
+      ones y,
+      tens m small.month_small,
+      ones m,
+      tens d small.day_small,
+      ones d,
+      tens h (let hour = small.hour_small in omega arith),
+      ones h,
+      tens mi (let minute = small.minute_small in omega arith),
+      ones mi,
+      tens s (let second = small.second_small in omega arith),
+      ones s,
+    ) refl
 
 no_spaces : (c y m d h mi s : ℕ) → without_spaces (form_of c y m d h mi s) ≡ form_of c y m d h mi s
 no_spaces c y m d h mi s = rw (ne_eqb (48 + c / 10) 32 (λ same. omega arith)) refl
@@ -60,10 +74,22 @@ utf8 c y m d h mi s small =
     let minute = small.minute_small in
     let second = small.second_small in
     is_utf8-from_IsUtf8 (form_of c y m d h mi s) (IsUtf8-are_ascii (form_of c y m d h mi s)
-    (rw (lt-ltb (48 + c / 10) 128 (omega arith), lt-ltb (48 + c % 10) 128 (omega arith), lt-ltb (48 + y / 10) 128 (omega arith), lt-ltb (48 + y % 10) 128 (omega arith),
-    lt-ltb (48 + m / 10) 128 (omega arith), lt-ltb (48 + m % 10) 128 (omega arith), lt-ltb (48 + d / 10) 128 (omega arith), lt-ltb (48 + d % 10) 128 (omega arith),
-    lt-ltb (48 + h / 10) 128 (omega arith), lt-ltb (48 + h % 10) 128 (omega arith), lt-ltb (48 + mi / 10) 128 (omega arith), lt-ltb (48 + mi % 10) 128 (omega arith),
-    lt-ltb (48 + s / 10) 128 (omega arith), lt-ltb (48 + s % 10) 128 (omega arith)) refl))
+    (rw (
+      lt-ltb (48 + c / 10) 128 (omega arith),
+      lt-ltb (48 + c % 10) 128 (omega arith),
+      lt-ltb (48 + y / 10) 128 (omega arith),
+      lt-ltb (48 + y % 10) 128 (omega arith),
+      lt-ltb (48 + m / 10) 128 (omega arith),
+      lt-ltb (48 + m % 10) 128 (omega arith),
+      lt-ltb (48 + d / 10) 128 (omega arith),
+      lt-ltb (48 + d % 10) 128 (omega arith),
+      lt-ltb (48 + h / 10) 128 (omega arith),
+      lt-ltb (48 + h % 10) 128 (omega arith),
+      lt-ltb (48 + mi / 10) 128 (omega arith),
+      lt-ltb (48 + mi % 10) 128 (omega arith),
+      lt-ltb (48 + s / 10) 128 (omega arith),
+      lt-ltb (48 + s % 10) 128 (omega arith),
+    ) refl))
 
 year_there : (c y m d h mi s : ℕ) → AreSmall c y m d h mi s → year_of (form_of c y m d h mi s) ≡ c * 100 + y
 year_there c y m d h mi s small = rw (tens c small.century_small, ones c, tens y small.year_small, ones y) (omega arith)
