@@ -1,67 +1,18 @@
 // Texts of events that are read, and texts that are not.
-
 use crate::tests::{Kind, change};
 use crate::{
-    Event, EventRefusal, each_event_is_read_back, event_texts_are_json,
-    no_two_events_have_one_text, print_event, read_event,
+    EventRefusal, each_event_is_read_back, event_texts_are_json, no_two_events_have_one_text,
+    print_event, read_event,
 };
 use bl_outside::Text;
 use bl_value::{Change, Side, Value, date_texts_are_read_back};
 use std::alloc::{AllocError, Global};
 
-fn is_same_change(a: &Change, b: &Change) -> bool {
-    match (a, b) {
-        (
-            Change::AddLabel { id, label },
-            Change::AddLabel {
-                id: other_id,
-                label: other_label,
-            },
-        ) => id == other_id && label == other_label,
-        (
-            Change::AddEdge {
-                id,
-                label,
-                from,
-                to,
-            },
-            Change::AddEdge {
-                id: other_id,
-                label: other_label,
-                from: other_from,
-                to: other_to,
-            },
-        ) => id == other_id && label == other_label && from == other_from && to == other_to,
-        (
-            Change::AddValue {
-                side,
-                id,
-                key,
-                value,
-            },
-            Change::AddValue {
-                side: other_side,
-                id: other_id,
-                key: other_key,
-                value: other_value,
-            },
-        ) => side == other_side && id == other_id && key == other_key && value == other_value,
-        (
-            Change::RemoveValue {
-                side,
-                id,
-                key,
-                value,
-            },
-            Change::RemoveValue {
-                side: other_side,
-                id: other_id,
-                key: other_key,
-                value: other_value,
-            },
-        ) => side == other_side && id == other_id && key == other_key && value == other_value,
-        _ => false,
-    }
+// Each variant and each part of a change stands in its debug text.
+fn is_same_change(alloc: Global, a: &Change, b: &Change) -> Result<bool, AllocError> {
+    let first = format!(in alloc; "{a:?}")?;
+    let second = format!(in alloc; "{b:?}")?;
+    Ok(first == second)
 }
 
 #[test]
@@ -109,7 +60,8 @@ fn records_are_read_as_their_events(rt: HostRuntime) {
         let (commit, op, moment, last) = numbers;
         assert!(rt; event.commit == commit && event.op == op, "{text}");
         assert!(rt; event.moment == moment && event.last == last, "{text}");
-        assert!(rt; is_same_change(&event.change, &want), "{text}");
+        let same = is_same_change(rt.alloc(), &event.change, &want).expect(&rt, "memory");
+        assert!(rt; same, "{text}");
         let again = print_event(rt.alloc(), &event).expect(&rt, "memory");
         assert!(rt; again.as_slice() == text.as_bytes(), "{text}");
     }
@@ -129,6 +81,7 @@ fn texts_that_are_no_json(rt: HostRuntime) {
         b"{",
         b"{\"a\":1",
         b"{\"a\":01}",
+        b"{\"commitTimestamp\":0,\"data\":{\"id\":\"v1\",\"key\":\"label\",\"type\":\"vl\",\"value\":{\"dataType\":\"String\",\"value\":\"a\"}},\"eventId\":{\"commitNum\":01,\"opNum\":1},\"op\":\"ADD\"}",
         b"{\"a\":.5}",
         b"{\"a\":\"\x01\"}",
         b"{\"a\":\"\\x41\"}",
