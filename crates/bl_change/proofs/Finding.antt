@@ -34,7 +34,10 @@ narrowed Is Found is_found (Err NotJson) finds = finds
 narrowed Is Found is_found (Err NotAnEvent) finds = λ other is. finds other (is_found other is)
 narrowed Is Found is_found (Err NoMemory) finds = tt
 
--- one place has one text
+-- one place has one value, and one text
+pub one_data : (found : Option Data) (a b : Data) → found ≡ Some a → found ≡ Some b → a ≡ b
+one_data found a b first second = cc
+
 pub one_text : (found : Option Data) (a b : List ℕ) → found ≡ Some (string a) → found ≡ Some (string b) → a ≡ b
 one_text found a b first second = cc
 
@@ -44,6 +47,3 @@ type_there (AddLabel id label) = refl
 type_there (AddEdge id label from to) = refl
 type_there (AddValue side id key value) = refl
 type_there (RemoveValue side id key value) = refl
-
-pub one_data : (found : Option Data) (a b : Data) → found ≡ Some a → found ≡ Some b → a ≡ b
-one_data found a b first second = cc

@@ -38,7 +38,7 @@ type_of (Long n) = type.Long
 type_of (Str text) = type.Str
 type_of (Date seconds) = type.Date
 
--- a value in the range of its type, that an object has under the name of one
+-- a value of this type, in its range, that an object has as its `value`
 abbrev pub IsValueIn : ValueType → Data → Value → Type 0
 IsValueIn kind json value = (kind ≡ type_of value) × IsValue value × (get (codes "value") json ≡ Some (value_data value))
 
