@@ -1,4 +1,4 @@
-use Rattle.std.proofs.Common.{◌≡◌, ◌∙◌, ap}
+use Rattle.std.proofs.Common.{◌∙◌, ap}
 use Rattle.bl_graph.specs.Replay.{after_one}
 use Rattle.bl_graph.proofs.Replayed.{after-more}
 use Rattle.bl_graph.proofs.graph.Graph.apply_all.Goals as goal
