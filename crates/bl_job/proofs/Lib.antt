@@ -1,0 +1,4 @@
+mod Fronts
+mod TakenRows
+mod Sound
+mod Fitting
