@@ -54,7 +54,7 @@ sound_logs : (fail_on_error : Bool) (made : BatchResult) (code : LogCode) (colum
     NumbersLogs fail_on_error (record made { rows = made.rows + 1; logs = made.logs ++ row_log (made.rows + 1) code column ∷ [] })
 sound_logs fail_on_error made code column going goes logs = record {
   rise = all_pairs_push IsBefore made.logs (row_log (made.rows + 1) code column) logs.rise
-  (λ k d there. let numbered : IsNumbered made.rows (get_or made.logs k d) = logs.within k d there in omega (arith, numbered.1));
+      (λ k d there. let numbered : IsNumbered made.rows (get_or made.logs k d) = logs.within k d there in omega (arith, numbered.1));
   within = All-push (IsNumbered (made.rows + 1)) made.logs (row_log (made.rows + 1) code column) (more_rows made.rows made.logs logs.within) (omega arith, omega arith);
   none = λ fails. absurd (false≢true (sym goes ∙ fails));
   unstopped = λ still. going;
@@ -130,8 +130,8 @@ stands_all total request (row ∷ rows) taken stands =
     at_stop (λ more. Stands total 0 more.result) taken (take_rows request (with_row request taken row.row) rows) (is_some taken.result.stop)
     (λ stopped. record { left = λ goes. absurd (false≢true (ap is_some (sym goes) ∙ stopped)); there = stands.there })
     (λ going.
-        stands_all total request rows (with_row request taken row.row)
-        (stands_more total (length rows) request.fail_on_error taken (admit taken.graph request.update_single row.row) (no_stop taken.result.stop going) stands))
+    stands_all total request rows (with_row request taken row.row)
+    (stands_more total (length rows) request.fail_on_error taken (admit taken.graph request.update_single row.row) (no_stop taken.result.stop going) stands))
 
 pub counts_batch : (request : LoadRequest) (start : Graph) (rows : List DigestRow) → CountsRows rows (batch request start rows).result
 counts_batch request start rows =

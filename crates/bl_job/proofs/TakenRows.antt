@@ -68,13 +68,13 @@ changes_go_on request (row ∷ rows) taken =
     at_stop (λ more. GoesOn taken.result.changes more.result.changes) taken (take_rows request (with_row request taken row.row) rows) (is_some taken.result.stop)
     (λ stopped. record { more = []; is = sym (append-nil taken.result.changes) })
     (λ going.
-        let now : Taken = with_row request taken row.row in
-        let verdict : Verdict = admit taken.graph request.update_single row.row in
-        let rest : GoesOn now.result.changes (take_rows request now rows).result.changes = changes_go_on request rows now in
-        record {
-          more = verdict_changes verdict ++ rest.more;
-          is = rest.is ∙ ap (λ them. them ++ rest.more) (verdict_adds request.fail_on_error taken verdict) ∙ append_assoc taken.result.changes (verdict_changes verdict) rest.more;
-        })
+    let now : Taken = with_row request taken row.row in
+    let verdict : Verdict = admit taken.graph request.update_single row.row in
+    let rest : GoesOn now.result.changes (take_rows request now rows).result.changes = changes_go_on request rows now in
+    record {
+      more = verdict_changes verdict ++ rest.more;
+      is = rest.is ∙ ap (λ them. them ++ rest.more) (verdict_adds request.fail_on_error taken verdict) ∙ append_assoc taken.result.changes (verdict_changes verdict) rest.more;
+    })
 
 -- where a row is taken in part, a front of all changes is applied
 pub front_of_rows : (request : LoadRequest) (start next : Graph) (taken all : Taken) (row : Row) (rows : List DigestRow) → after start taken.result.changes ≡ taken.graph → take_rows request (with_row request taken row) rows ≡ all → IsAfterFront taken.graph (verdict_changes (admit taken.graph request.update_single row)) next →

@@ -36,7 +36,12 @@ impl BatchResult {
     }
 
     // Logs a refused row, or stops before it.
-    pub(crate) fn refuse(&mut self, fail_on_error: bool, code: LogCode, column: u32) -> Result<(), NoMemory>
+    pub(crate) fn refuse(
+        &mut self,
+        fail_on_error: bool,
+        code: LogCode,
+        column: u32,
+    ) -> Result<(), NoMemory>
         requires { self.old.rows < 2 ^ 32 - 1 }
         ensures { OnOk result (self.new ≡ with_refusal fail_on_error self.old code column) }
     {

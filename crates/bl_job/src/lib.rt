@@ -14,3 +14,8 @@ mod batching;
 
 pub use batch_result::BatchResult;
 pub use batching::batch;
+
+#[cfg(test)]
+mod test_rows;
+#[cfg(test)]
+mod tests;
