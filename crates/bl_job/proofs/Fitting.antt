@@ -2,13 +2,12 @@
 use Rattle.std.specs.Prelude.{◌≡◌, ℕ, zero, suc, Bool, true, false, ◌&&◌, List, [], ◌∷◌, ◌++◌, take, IfOk, OnErr, refl}
 use Rattle.std.specs.declared.result.Result.{Result}
 use Rattle.std.specs.declared.result.Result.TheVariants.{Ok, Err}
-use Rattle.std.specs.List.{All, AllByRecursion}
+use Rattle.std.specs.List.{AllByRecursion}
 use Rattle.std.proofs.Common.{sym, ap, subst, ◌∙◌}
 use Rattle.std.proofs.lemmas.Bool.{false≢true}
 use Rattle.std.proofs.lemmas.List.Elements.{All-head, All-tail}
 use Rattle.bl_outside.specs.declared.refusals.NoMemory.{NoMemory}
 use Rattle.bl_value.specs.declared.change.Change.{Change}
-use Rattle.bl_value.specs.declared.row.Row.{Row}
 use Rattle.bl_value.specs.declared.row.DigestRow.{DigestRow}
 use Rattle.bl_files.specs.declared.load_request.LoadRequest.{LoadRequest}
 use Rattle.bl_graph.specs.Graph.{Graph}
@@ -22,7 +21,7 @@ use Rattle.bl_graph.proofs.Admitted.{admitted_fits}
 use Rattle.bl_graph.proofs.Replayed.{after-append}
 use Rattle.bl_graph.proofs.Validity.{valid_after_all}
 use Rattle.bl_job.specs.declared.batch_result.BatchResult.{BatchResult}
-use Rattle.bl_job.specs.Batches.{Taken, batch, nothing_yet, so_far, with_row, with_verdict}
+use Rattle.bl_job.specs.Batches.{Taken, batch, nothing_yet, so_far, with_verdict}
 use Rattle.bl_job.specs.Batched.{AreProperRows}
 use Rattle.bl_job.proofs.TakenRows.{rows_keep}
 

@@ -2,3 +2,4 @@ mod Fronts
 mod TakenRows
 mod Sound
 mod Fitting
+mod TwoBatches

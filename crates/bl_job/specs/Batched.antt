@@ -1,8 +1,7 @@
 -- What is promised of a batch of rows.
-use Rattle.std.specs.Prelude.{◌≡◌, ℕ, ◌+◌, ◌≤◌, ◌<◌, Bool, true, false, List, [], length, None, IfSome}
+use Rattle.std.specs.Prelude.{◌≡◌, ◌+◌, ◌≤◌, ◌<◌, Bool, true, false, List, [], length, None, IfSome}
 use Rattle.std.specs.List.{All, AllPairs}
 use Rattle.bl_value.specs.declared.row.DigestRow.{DigestRow}
-use Rattle.bl_files.specs.declared.log.Log.{Log}
 use Rattle.bl_graph.specs.Admitted.{IsProperRow}
 use Rattle.bl_job.specs.declared.batch_result.BatchResult.{BatchResult}
 

@@ -1,8 +1,6 @@
-use Rattle.std.proofs.Common.{◌≡◌, ◌∙◌, true, ap, sym, subst}
+use Rattle.std.proofs.Common.{◌≡◌, true, sym, subst}
 use Rattle.std.proofs.lemmas.Result.{IfOk-weaker}
-use Rattle.bl_graph.specs.Graph.{Graph}
 use Rattle.bl_graph.specs.Replay.{after, fit}
-use Rattle.bl_job.specs.declared.batch_result.BatchResult.{BatchResult}
 use Rattle.bl_job.specs.Batches.{Taken, batch, so_far}
 use Rattle.bl_job.specs.Batched.{AreProperRows, CountsRows, NumbersLogs}
 use Rattle.bl_job.proofs.Fitting.{fit_batch, valid_batch}

@@ -1,4 +1,4 @@
-use Rattle.std.proofs.Common.{◌≡◌, ◌+◌, ◌∙◌, drop, length, None, ap, sym, subst}
+use Rattle.std.proofs.Common.{◌≡◌, ◌+◌, ◌∙◌, drop, None, ap, sym, subst}
 use Rattle.bl_graph.specs.Replay.{IsAfterFront}
 use Rattle.bl_job.specs.Batches.{Taken, batch, so_far, take_rows, with_row}
 use Rattle.bl_job.proofs.Fronts.{on_err}
