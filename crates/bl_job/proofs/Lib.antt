@@ -1,5 +1,5 @@
 mod Fronts
 mod TakenRows
-mod Sound
-mod Fitting
-mod TwoBatches
+pub mod Sound
+pub mod Fitting
+pub mod TwoBatches

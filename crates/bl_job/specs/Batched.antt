@@ -10,11 +10,11 @@ AreProperRows rows = All (λ row. IsProperRow row.row) rows
 
 -- How the counts of a batch stand to its rows.
 pub record CountsRows (rows : List DigestRow) (made : BatchResult) : Type 0 where
-  -- duplicates and logged rows are different ones of the rows taken
+  -- duplicates and logged rows together are no more than the rows taken
   pub among : made.duplicates + length made.logs ≤ made.rows
   -- where nothing stopped the batch all rows are taken
   pub whole : made.stop ≡ None → made.rows ≡ length rows
-  -- the row that stopped it is the next one
+  -- the row that stopped it is the one behind them, and there is one
   pub next : IfSome made.stop (λ log. log.number ≡ made.rows + 1)
   pub there : IfSome made.stop (λ log. log.number ≤ length rows)
 

@@ -13,6 +13,7 @@ use bl_outside::{List, NoMemory};
 use bl_value::{Change, DigestRow, Row};
 use std::alloc::Global;
 
+// Moves changes behind the others.
 fn append(all: &mut List<Change>, changes: List<Change>) -> Result<(), NoMemory>
     ensures { OnOk result (all.new ≡ all.old ++ changes) }
 {
@@ -22,7 +23,7 @@ fn append(all: &mut List<Change>, changes: List<Change>) -> Result<(), NoMemory>
     Ok(())
 }
 
-// Applies changes, and moves them behind the others.
+// Applies changes, and then moves them behind the others.
 fn take_changes(
     graph: &mut Graph,
     all: &mut List<Change>,
@@ -63,6 +64,7 @@ fn take_row(
     }
 }
 
+// Takes the rows, up to the one that stops the batch.
 fn take_rows(
     alloc: Global,
     graph: &mut Graph,
@@ -85,7 +87,8 @@ fn take_rows(
 
 /// Takes the rows one after another: each is admitted into the graph so far, and its changes are
 /// applied. A refused row is counted and logged, or with `fail_on_error` the batch stops before it.
-/// After want of memory the graph has taken a front of the changes.
+/// The changes of proper rows fit, each in turn, so a valid graph stays valid. After want of memory
+/// the graph has taken a front of the changes.
 pub fn batch(
     alloc: Global,
     graph: &mut Graph,
