@@ -1,0 +1,5 @@
+mod Fronts
+mod TakenRows
+pub mod Sound
+pub mod Fitting
+pub mod TwoBatches
