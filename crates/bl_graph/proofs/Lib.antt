@@ -10,6 +10,7 @@ mod FittingRows
 pub mod Admitted
 pub mod Duplicates
 pub mod Validity
+pub mod ValidChanges
 pub mod Taken
 mod ProperRows
 mod OneWay

@@ -239,7 +239,7 @@ empty_values : (id key : List ℕ) → at_key (keys_in map.empty id) key ≡ set
 empty_values id key =
     ap (λ (o : Option (ByText Values)). at_key (unwrap_or o map.empty) key) (map.get-empty (slice_cmp nat_cmp) id) ∙ none_at_key key
 
-empty_at : (side : Side) (id key : List ℕ) → values_at empty side id key ≡ set.empty
+pub empty_at : (side : Side) (id key : List ℕ) → values_at empty side id key ≡ set.empty
 empty_at Vertex id key = empty_values id key
 empty_at Edge id key = empty_values id key
 

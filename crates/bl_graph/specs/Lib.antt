@@ -5,4 +5,5 @@ pub mod Admitted
 pub mod WithRow
 pub mod Sizes
 pub mod ValidGraph
+pub mod ValidChanges
 pub mod Codes

@@ -3,6 +3,7 @@ ghost use Rattle.std.specs.Prelude.{◌≡◌, ◌==◌, true, min, IfOk, OnOk, 
 ghost use Rattle.std.specs.FinMap as map;
 ghost use Rattle.bl_outside.specs.OrderedSet as set;
 ghost use Rattle.bl_graph.specs.Sizes.{values_count};
+ghost use Rattle.bl_graph.specs.ValidChanges.{HasValidValues};
 ghost use Rattle.bl_graph.specs.ValidGraph.{IsValidGraph};
 ghost use Rattle.std.specs.Option.{option_copied, option_map, unwrap_or};
 ghost use Rattle.bl_graph.specs.Graph.{empty, has_owner, has_vertex, labels_of, edge_of, values_at};
@@ -40,6 +41,7 @@ impl Graph {
     pub fn empty(alloc: Global) -> Graph
         ensures empty { result ≡ empty }
         ensures valid { IsValidGraph result }
+        ensures values { HasValidValues result }
     {
         Graph {
             alloc,

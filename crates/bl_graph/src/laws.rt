@@ -1,6 +1,7 @@
 // Laws of the definitions. The functions do nothing: their contracts are the laws.
 ghost use Rattle.bl_graph.specs.Admitted.{AdmissionKeepsValidity, ValidIsProper};
 ghost use Rattle.bl_graph.specs.Replay.{IsOneFold};
+ghost use Rattle.bl_graph.specs.ValidChanges.{RowsGiveValidChanges, ValidChangesKeepValues};
 ghost use Rattle.bl_graph.specs.ValidGraph.{KeepsValidity};
 ghost use Rattle.bl_graph.specs.WithRow.{TakesInOneWay};
 
@@ -27,4 +28,15 @@ pub fn proper_rows_keep_validity()
 /// What a graph is once it has taken a row leaves nothing open: there is one such valid graph.
 pub fn a_row_is_taken_in_one_way()
     ensures { TakesInOneWay }
+{}
+
+/// The changes of a valid row are valid, where the values of the graph are: a removal takes a value out
+/// of it.
+pub fn valid_rows_give_valid_changes()
+    ensures { RowsGiveValidChanges }
+{}
+
+/// Valid changes keep the values of a graph valid.
+pub fn valid_changes_keep_values_valid()
+    ensures { ValidChangesKeepValues }
 {}

@@ -6,7 +6,8 @@
 //!
 //! Words of the contracts: `specs/Graph` (the maps), `specs/Replay` (changes applied),
 //! `specs/Admission` (what a row does), `specs/Admitted` and `specs/WithRow` (what is promised of
-//! that), `specs/ValidGraph`, `specs/Sizes`. This crate stands on `bl_value` and `bl_outside`.
+//! that), `specs/ValidGraph`, `specs/ValidChanges`, `specs/Sizes`. This crate stands on `bl_value` and
+//! `bl_outside`.
 #![tactic(auto)]
 
 mod admission;
@@ -29,7 +30,8 @@ pub use graph::Graph;
 use keyed_values::KeyedValues;
 pub use laws::{
     a_row_is_taken_in_one_way, changes_that_fit_keep_validity, proper_rows_keep_validity,
-    replay_is_one_fold, valid_rows_are_proper,
+    replay_is_one_fold, valid_changes_keep_values_valid, valid_rows_are_proper,
+    valid_rows_give_valid_changes,
 };
 use owned_values::OwnedValues;
 use text_set::TextSet;
