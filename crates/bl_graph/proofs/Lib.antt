@@ -5,7 +5,7 @@ mod Conflicts
 mod Lenses
 mod Apart
 mod Sets
-mod Fitting
+pub mod Fitting
 mod FittingRows
 pub mod Admitted
 pub mod Duplicates

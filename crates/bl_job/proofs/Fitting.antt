@@ -1,10 +1,9 @@
 -- The changes of proper rows fit, and keep a graph valid.
-use Rattle.std.specs.Prelude.{◌≡◌, ℕ, zero, suc, Bool, true, false, ◌&&◌, List, [], ◌∷◌, ◌++◌, take, IfOk, OnErr, refl}
+use Rattle.std.specs.Prelude.{◌≡◌, ℕ, zero, suc, Bool, true, false, ◌&&◌, List, [], ◌∷◌, take, IfOk, OnErr, refl}
 use Rattle.std.specs.declared.result.Result.{Result}
 use Rattle.std.specs.declared.result.Result.TheVariants.{Ok, Err}
 use Rattle.std.specs.List.{AllByRecursion}
 use Rattle.std.proofs.Common.{sym, ap, subst, ◌∙◌}
-use Rattle.std.proofs.lemmas.Bool.{false≢true}
 use Rattle.std.proofs.lemmas.List.Elements.{All-head, All-tail}
 use Rattle.bl_outside.specs.declared.refusals.NoMemory.{NoMemory}
 use Rattle.bl_value.specs.declared.change.Change.{Change}
@@ -18,6 +17,7 @@ use Rattle.bl_graph.specs.ValidGraph.{IsValidGraph}
 use Rattle.bl_graph.specs.declared.verdict.Verdict.{Verdict}
 use Rattle.bl_graph.specs.declared.verdict.Verdict.TheVariants.{Changes, Duplicate, Refused}
 use Rattle.bl_graph.proofs.Admitted.{admitted_fits}
+use Rattle.bl_graph.proofs.Fitting.{fit_more, fits_first, fits_later}
 use Rattle.bl_graph.proofs.Replayed.{after-append}
 use Rattle.bl_graph.proofs.Validity.{valid_after_all}
 use Rattle.bl_job.specs.declared.batch_result.BatchResult.{BatchResult}
@@ -28,28 +28,13 @@ use Rattle.bl_job.proofs.TakenRows.{rows_keep}
 both : (a b : Bool) → a ≡ true → b ≡ true → (a && b) ≡ true
 both a b one other = ap (λ c. c && b) one ∙ other
 
-first : (a b : Bool) → (a && b) ≡ true → a ≡ true
-first true b h = refl
-first false b h = h
-
-second : (a b : Bool) → (a && b) ≡ true → b ≡ true
-second true b h = h
-second false b h = absurd (false≢true h)
-
--- changes that fit, and then more that fit
-fit_more : (graph : Graph) (changes more : List Change) → fit graph changes ≡ true → fit (after graph changes) more ≡ true → fit graph (changes ++ more) ≡ true
-fit_more graph [] more one other = other
-fit_more graph (change ∷ changes) more one other =
-    let now : Graph = after_one graph change in
-    both (fits graph change) (fit now (changes ++ more)) (first (fits graph change) (fit now changes) one) (fit_more now changes more (second (fits graph change) (fit now changes) one) other)
-
 -- a front of changes that fit
 fit_front : (graph : Graph) (changes : List Change) (count : ℕ) → fit graph changes ≡ true → fit graph (take count changes) ≡ true
 fit_front graph changes zero fitting = refl
 fit_front graph [] (suc count) fitting = refl
 fit_front graph (change ∷ changes) (suc count) fitting =
     let now : Graph = after_one graph change in
-    both (fits graph change) (fit now (take count changes)) (first (fits graph change) (fit now changes) fitting) (fit_front now changes count (second (fits graph change) (fit now changes) fitting))
+    both (fits graph change) (fit now (take count changes)) (fits_first (fits graph change) (fit now changes) fitting) (fit_front now changes count (fits_later (fits graph change) (fit now changes) fitting))
 
 -- the changes so far fit, and give the graph
 pub record IsFitting (start : Graph) (taken : Taken) : Type 0 where
