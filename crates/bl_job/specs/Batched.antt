@@ -1,12 +1,16 @@
 -- What is promised of a batch of rows.
 use Rattle.std.specs.Prelude.{◌≡◌, ◌+◌, ◌≤◌, ◌<◌, Bool, true, false, List, [], length, None, IfSome}
 use Rattle.std.specs.List.{All, AllPairs}
+use Rattle.bl_value.specs.ValidRows.{IsRow}
 use Rattle.bl_value.specs.declared.row.DigestRow.{DigestRow}
 use Rattle.bl_graph.specs.Admitted.{IsProperRow}
 use Rattle.bl_job.specs.declared.batch_result.BatchResult.{BatchResult}
 
 abbrev pub AreProperRows : List DigestRow → Type 0
 AreProperRows rows = All (λ row. IsProperRow row.row) rows
+
+abbrev pub AreValidRows : List DigestRow → Type 0
+AreValidRows rows = All (λ row. IsRow row.row) rows
 
 -- How the counts of a batch stand to its rows.
 pub record CountsRows (rows : List DigestRow) (made : BatchResult) : Type 0 where

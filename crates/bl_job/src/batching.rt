@@ -2,9 +2,12 @@
 ghost use Rattle.std.specs.Prelude.{◌≡◌, ◌<◌, ◌^◌, ◌-◌, ◌++◌, true, length, IfOk, OnOk, OnErr};
 ghost use Rattle.bl_graph.specs.Admission.{admit};
 ghost use Rattle.bl_graph.specs.Replay.{IsAfterFront, after, fit};
+ghost use Rattle.std.specs.List.{All};
+ghost use Rattle.bl_value.specs.Valid.{IsChange};
+ghost use Rattle.bl_graph.specs.ValidChanges.{HasValidValues};
 ghost use Rattle.bl_graph.specs.ValidGraph.{IsValidGraph};
 ghost use Rattle.bl_job.specs.Batches.{batch, so_far, verdict_changes, with_row};
-ghost use Rattle.bl_job.specs.Batched.{AreProperRows, CountsRows, NumbersLogs};
+ghost use Rattle.bl_job.specs.Batched.{AreProperRows, AreValidRows, CountsRows, NumbersLogs};
 
 use crate::BatchResult;
 use bl_files::LoadRequest;
@@ -87,8 +90,9 @@ fn take_rows(
 
 /// Takes the rows one after another: each is admitted into the graph so far, and its changes are
 /// applied. A refused row is counted and logged, or with `fail_on_error` the batch stops before it.
-/// The changes of proper rows fit, each in turn, so a valid graph stays valid. After want of memory
-/// the graph has taken a front of the changes.
+/// The changes of proper rows fit, each in turn, so a valid graph stays valid. The changes of valid
+/// rows are valid where the values of the graph are, and those stay so. After want of memory the graph
+/// has taken a front of the changes.
 pub fn batch(
     alloc: Global,
     graph: &mut Graph,
@@ -103,6 +107,8 @@ pub fn batch(
     ensures logs { IfOk result (NumbersLogs request.now.fail_on_error) }
     ensures fit { IfOk result (λ made. AreProperRows rows.now → fit graph.old made.changes ≡ true) }
     ensures valid { AreProperRows rows.now → IsValidGraph graph.old → IsValidGraph graph.new }
+    ensures valid_changes { IfOk result (λ made. AreValidRows rows.now → HasValidValues graph.old → All IsChange made.changes) }
+    ensures values { AreValidRows rows.now → HasValidValues graph.old → HasValidValues graph.new }
 {
     take_rows(alloc, graph, request, rows)
 }
