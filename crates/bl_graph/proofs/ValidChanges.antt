@@ -2,7 +2,6 @@
 use Rattle.std.specs.Prelude.{◌≡◌, ◌==◌, ◌<◌, ℕ, Bool, true, false, not, ◌&&◌, ◌||◌, cond, codes, List, [], ◌∷◌, ◌++◌, filter, map as each, length, Some, None, refl}
 use Rattle.std.specs.declared.option.Option.{Option}
 use Rattle.std.specs.List.{All, flat_map}
-use Rattle.std.specs.Str.{IsUtf8}
 use Rattle.std.proofs.Common.{sym, ap, subst, ◌∙◌, arith}
 use Rattle.std.proofs.lemmas.Bool.{false≢true}
 use Rattle.std.proofs.lemmas.Str.{IsUtf8-from_ascii}
@@ -28,7 +27,7 @@ use Rattle.bl_value.specs.declared.row.Row.TheVariants.{Vertex as vertex_row, Ed
 use Rattle.bl_graph.specs.declared.verdict.Verdict.{Verdict}
 use Rattle.bl_graph.specs.Graph.{Graph, Ends, Values, empty, has_vertex, labels_of, edge_of, values_at}
 use Rattle.bl_graph.specs.Replay.{with_values_at, after_one, after}
-use Rattle.bl_graph.specs.Admission.{added, admit, changed, conflict, edge_changes, edge_refusal, given_labels, is_among, label_changes, property_changes, replaced, unless_conflict, unless_refused}
+use Rattle.bl_graph.specs.Admission.{added, admit, conflict, edge_changes, edge_refusal, given_labels, is_among, label_changes, property_changes, replaced, unless_conflict, unless_refused}
 use Rattle.bl_graph.specs.ValidChanges.{AreValidChanges, HasValidValues}
 use Rattle.bl_graph.proofs.Apart.{all_map, items_there}
 use Rattle.bl_graph.proofs.Fitting.{fits_later}
@@ -85,7 +84,7 @@ all_of_two P false xs ys first second = second
 -- `vertex` is a label
 vertex_label : IsId (codes "vertex")
 vertex_label = record {
-  utf8 = IsUtf8-from_ascii (codes "vertex") (IsAscii-from_all (codes "vertex") (All-from_recursion (λ byte. byte < 128) (codes "vertex") (omega arith, (omega arith, (omega arith, (omega arith, (omega arith, (omega arith, tt)))))))) ;
+  utf8 = IsUtf8-from_ascii (codes "vertex") (IsAscii-from_all (codes "vertex") (All-from_recursion (λ byte. byte < 128) (codes "vertex") (omega arith, (omega arith, (omega arith, (omega arith, (omega arith, (omega arith, tt))))))));
   some = omega arith;
   short = omega arith;
 }

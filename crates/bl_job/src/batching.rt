@@ -1,9 +1,9 @@
 // One batch of rows: each is admitted into the graph so far, and its changes are applied.
 ghost use Rattle.std.specs.Prelude.{◌≡◌, ◌<◌, ◌^◌, ◌-◌, ◌++◌, true, length, IfOk, OnOk, OnErr};
-ghost use Rattle.bl_graph.specs.Admission.{admit};
-ghost use Rattle.bl_graph.specs.Replay.{IsAfterFront, after, fit};
 ghost use Rattle.std.specs.List.{All};
 ghost use Rattle.bl_value.specs.Valid.{IsChange};
+ghost use Rattle.bl_graph.specs.Admission.{admit};
+ghost use Rattle.bl_graph.specs.Replay.{IsAfterFront, after, fit};
 ghost use Rattle.bl_graph.specs.ValidChanges.{HasValidValues};
 ghost use Rattle.bl_graph.specs.ValidGraph.{IsValidGraph};
 ghost use Rattle.bl_job.specs.Batches.{batch, so_far, verdict_changes, with_row};

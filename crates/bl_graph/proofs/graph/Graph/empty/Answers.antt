@@ -1,5 +1,4 @@
-use Rattle.std.proofs.Common.{◌≡◌, subst, sym}
-use Rattle.bl_graph.specs.Graph.{Graph, empty}
+use Rattle.std.proofs.Common.{subst, sym}
 use Rattle.bl_graph.specs.ValidChanges.{HasValidValues}
 use Rattle.bl_graph.specs.ValidGraph.{IsValidGraph}
 use Rattle.bl_graph.proofs.ValidChanges.{values_of_empty}
