@@ -30,8 +30,8 @@ pub fn a_row_is_taken_in_one_way()
     ensures { TakesInOneWay }
 {}
 
-/// The changes of a valid row are valid, where the values of the graph are: a removal takes a value out
-/// of it.
+/// The changes of a valid row are valid where the values of the graph are: a removal carries one of
+/// those.
 pub fn valid_rows_give_valid_changes()
     ensures { RowsGiveValidChanges }
 {}

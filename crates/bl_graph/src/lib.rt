@@ -6,8 +6,8 @@
 //!
 //! Words of the contracts: `specs/Graph` (the maps), `specs/Replay` (changes applied),
 //! `specs/Admission` (what a row does), `specs/Admitted` and `specs/WithRow` (what is promised of
-//! that), `specs/ValidGraph`, `specs/ValidChanges`, `specs/Sizes`. This crate stands on `bl_value` and
-//! `bl_outside`.
+//! that), `specs/ValidGraph`, `specs/ValidChanges`, `specs/Sizes`. This crate stands on `bl_value`
+//! and `bl_outside`.
 #![tactic(auto)]
 
 mod admission;

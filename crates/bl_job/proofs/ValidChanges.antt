@@ -1,5 +1,5 @@
 -- The changes of valid rows are valid, and keep the values of a graph valid.
-use Rattle.std.specs.Prelude.{◌≡◌, Bool, true, false, List, [], take, IfOk, OnErr}
+use Rattle.std.specs.Prelude.{◌≡◌, Bool, true, false, List, take, IfOk, OnErr}
 use Rattle.std.specs.declared.result.Result.{Result}
 use Rattle.std.specs.declared.result.Result.TheVariants.{Ok, Err}
 use Rattle.std.specs.List.{All}

@@ -91,8 +91,8 @@ fn take_rows(
 /// Takes the rows one after another: each is admitted into the graph so far, and its changes are
 /// applied. A refused row is counted and logged, or with `fail_on_error` the batch stops before it.
 /// The changes of proper rows fit, each in turn, so a valid graph stays valid. The changes of valid
-/// rows are valid where the values of the graph are, and those stay so. After want of memory the graph
-/// has taken a front of the changes.
+/// rows are valid where the values of the graph are, and those stay so. After want of memory the
+/// graph has taken a front of the changes.
 pub fn batch(
     alloc: Global,
     graph: &mut Graph,
