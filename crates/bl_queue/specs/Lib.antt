@@ -1,0 +1,4 @@
+pub mod Statuses
+pub mod Jobs
+pub mod Checks
+pub mod Previous
