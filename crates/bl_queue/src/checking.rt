@@ -3,7 +3,7 @@ ghost use Rattle.std.specs.Prelude.{◌≡◌, ◌≤◌, ◌^◌, ◌<◌, leng
 ghost use Rattle.bl_queue.specs.Checks.{busy, full, has_id, too_many, unknown, used_up};
 
 use crate::searching::front_of;
-use crate::{CheckRefusal, Job, JobStatus};
+use crate::{CheckRefusal, Job};
 use bl_files::LoadRequest;
 
 /// The most loads that one may depend on.
@@ -62,7 +62,7 @@ pub(crate) fn full(jobs: &[Job]) -> Option<CheckRefusal>
 {
     let waiting = jobs
         .iter()
-        .filter(|job| matches!(job.status, JobStatus::InQueue))
+        .filter(|job| job.status.is_in_queue())
         .count();
     if waiting == MOST_QUEUED {
         Some(CheckRefusal::QueueFull)

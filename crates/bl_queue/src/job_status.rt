@@ -1,6 +1,6 @@
 // How far a job is.
 ghost use Rattle.std.specs.Prelude.{◌≡◌};
-ghost use Rattle.bl_queue.specs.Statuses.{has_ended};
+ghost use Rattle.bl_queue.specs.Statuses.{has_ended, has_failed, is_in_queue};
 
 /// The status of a job (Neptune User Guide, "Loader Get-Status responses").
 #[derive(Clone, Copy, Debug, PartialEq, Eq)]
@@ -25,6 +25,28 @@ impl JobStatus {
         match self {
             JobStatus::NotStarted | JobStatus::InQueue | JobStatus::InProgress => false,
             _ => true,
+        }
+    }
+
+    /// It has ended otherwise than completed.
+    pub fn has_failed(self) -> bool
+        ensures { result ≡ has_failed self }
+    {
+        match self {
+            JobStatus::CancelledByUser
+            | JobStatus::Failed
+            | JobStatus::DependencyNotSatisfied => true,
+            _ => false,
+        }
+    }
+
+    /// It waits behind another.
+    pub fn is_in_queue(self) -> bool
+        ensures { result ≡ is_in_queue self }
+    {
+        match self {
+            JobStatus::InQueue => true,
+            _ => false,
         }
     }
 }

@@ -1,17 +1,24 @@
 // The list of jobs.
-ghost use Rattle.std.specs.Prelude.{◌≡◌, []};
+ghost use Rattle.std.specs.Prelude.{◌≡◌, ◌+◌, true, [], IsSomeAnd, IfOk, OnOk, OnErr, None};
 ghost use Rattle.std.specs.Result.{result_err};
-ghost use Rattle.bl_queue.specs.Jobs.{AreJobs};
+ghost use Rattle.bl_queue.specs.Jobs.{AreJobs, is_unended, job_of, number_in};
 ghost use Rattle.bl_queue.specs.Checks.{refusal};
 ghost use Rattle.bl_queue.specs.Previous.{front, previous};
+ghost use Rattle.bl_queue.specs.Statuses.{has_ended};
+ghost use Rattle.bl_queue.specs.Changes.{IsEnded, IsSubmitted, new_job};
 
 use crate::checking::{busy, full, too_many, unknown, used_up};
 use crate::searching::{front_of, job_of, previous_of};
-use crate::{CheckRefusal, Job};
-use bl_files::LoadRequest;
-use bl_outside::List;
+use crate::settling::{drop_oldest, end_job, settle};
+use crate::{CheckRefusal, Job, JobStatus};
+use bl_files::{LoadRequest, Log};
+use bl_outside::{List, NoMemory};
 use std::alloc::Global;
 use std::marker::Model;
+use std::mem;
+
+/// The most jobs that are kept.
+pub const MOST_KEPT: usize = 1024;
 
 /// The jobs that are kept, by number. Contracts see it as a list and the last number that was given.
 #[derive(Debug, Drop)]
@@ -109,5 +116,62 @@ impl Jobs {
             Some(job) => previous_of(jobs, job).map(|older| older.number),
             None => None,
         }
+    }
+
+    /// Takes a load on, and gives its number. It waits behind all others, or is the next to start, or
+    /// ends at once where a load that it depends on ended otherwise than completed. Of more than
+    /// 1,024 jobs the oldest that has ended is dropped.
+    pub fn submit(
+        &mut self,
+        moment: u64,
+        id: u128,
+        request: LoadRequest,
+    ) -> Result<u32, NoMemory>
+        requires taken_on { refusal self.old request ≡ None }
+        requires id { number_in id ≡ self.old.last + 1 }
+        ensures number { IfOk result (λ number. number ≡ self.old.last + 1) }
+        ensures ok { OnOk result (IsSubmitted moment id request self.old self.new) }
+        ensures err { OnErr result (self.new ≡ self.old) }
+    {
+        let number = self.last + 1;
+        self.jobs.push(new_job(self.alloc, moment, number, id, request))?;
+        let mut jobs = mem::replace(&mut self.jobs, List::new(self.alloc)).into_vec();
+        settle(&mut jobs, moment);
+        drop_oldest(&mut jobs);
+        self.jobs = List::from_vec(jobs);
+        self.last = number;
+        Ok(number)
+    }
+
+    /// Ends a job, and with it each that can't come to its turn any more. The first that is left
+    /// is then the next to start. It takes no memory.
+    pub fn end(&mut self, moment: u64, job: u32, status: JobStatus, log: Option<Log>)
+        requires unended { IsSomeAnd (job_of job self.old.jobs) (λ it. is_unended it ≡ true) }
+        requires ended { has_ended status ≡ true }
+        ensures { IsEnded moment job status log self.old self.new }
+    {
+        let mut jobs = mem::replace(&mut self.jobs, List::new(self.alloc)).into_vec();
+        end_job(&mut jobs, moment, job, status, log);
+        settle(&mut jobs, moment);
+        self.jobs = List::from_vec(jobs);
+    }
+}
+
+// A job that waits.
+fn new_job(alloc: Global, moment: u64, number: u32, id: u128, request: LoadRequest) -> Job
+    ensures { result ≡ new_job moment number id request }
+{
+    Job {
+        number,
+        id,
+        request,
+        submitted: moment,
+        started: 0,
+        latest: moment,
+        run: 0,
+        previous: 0,
+        status: JobStatus::InQueue,
+        feeds: List::new(alloc),
+        end_log: None,
     }
 }

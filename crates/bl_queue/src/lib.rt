@@ -17,9 +17,10 @@ mod job;
 mod job_status;
 mod jobs;
 mod searching;
+mod settling;
 
 pub use check_refusal::CheckRefusal;
 pub use checking::{MOST_DEPENDENCIES, MOST_QUEUED};
 pub use job::Job;
 pub use job_status::JobStatus;
-pub use jobs::Jobs;
+pub use jobs::{Jobs, MOST_KEPT};
