@@ -1,9 +1,12 @@
 // The list after a job has ended or was taken on.
-ghost use Rattle.std.specs.Prelude.{◌≡◌, ◌<◌, length, slice_index_or, slice_set, take};
+ghost use Rattle.std.specs.Prelude.{◌≡◌, ◌<◌, length, position, slice_index_or, slice_set, take};
+ghost use Rattle.std.specs.List.{AllZip, list_any};
 ghost use Rattle.bl_queue.specs.Changes.{ended_job, trimmed, with_job};
-ghost use Rattle.bl_queue.specs.Doomed.{IsSettled, called_up, unsatisfied, with_front};
-ghost use Rattle.bl_queue.specs.Pass.{after_pass, failed_id, is_blocked};
+ghost use Rattle.bl_queue.specs.Doomed.{IsFate, IsSettled, called_up, unsatisfied, with_front};
+ghost use Rattle.bl_queue.specs.Pass.{AreOrdered, after_pass, ended_where, failed_id, is_blocked};
 ghost use Rattle.bl_queue.specs.declared.job.Job.{Job as JobValue};
+ghost use Rattle.bl_queue.specs.Jobs.{is_unended};
+ghost use Rattle.bl_queue.specs.Statuses.{has_ended};
 
 use crate::jobs::MOST_KEPT;
 use crate::{Job, JobStatus};
@@ -16,17 +19,25 @@ fn failed_id(jobs: &[Job], id: u128) -> bool
         .any(|job| job.id == id && job.status.has_failed())
 }
 
+fn has_failed_id(earlier: &[Job], ids: &[u128]) -> bool
+    ensures { result ≡ list_any (λ id. failed_id earlier.now id) ids.now }
+{
+    ids.iter().any(|id| failed_id(earlier, *id))
+}
+
 // A job that this one depends on has ended otherwise than completed.
 fn is_blocked(earlier: &[Job], job: &Job) -> bool
     ensures { result ≡ is_blocked earlier.now job.now }
 {
-    !job.status.has_ended()
-        && job
-            .request
-            .dependencies
-            .as_slice()
-            .iter()
-            .any(|id| failed_id(earlier, *id))
+    !job.status.has_ended() && has_failed_id(earlier, job.request.dependencies.as_slice())
+}
+
+// The job at a place is blocked by an earlier one.
+fn is_blocked_at(jobs: &[Job], place: usize) -> bool
+    requires { place < length jobs.now }
+    ensures { (d : JobValue) → result ≡ is_blocked (take place jobs.now) (slice_index_or jobs.now place d) }
+{
+    is_blocked(&jobs[..place], &jobs[place])
 }
 
 fn end_unsatisfied(job: &mut Job, moment: u64)
@@ -41,7 +52,92 @@ fn pass(jobs: &mut [Job], place: usize, moment: u64)
     requires { place < length jobs.old }
     ensures { (d : JobValue) → jobs.new ≡ slice_set jobs.old place (after_pass moment (take place jobs.old) (slice_index_or jobs.old place d)) }
 {
-    if is_blocked(&jobs[..place], &jobs[place]) {
+    if is_blocked_at(jobs, place) {
         end_unsatisfied(&mut jobs[place], moment);
+    }
+}
+
+// Ends the jobs that are doomed. Jobs depend on earlier ones, so one pass from front to back ends
+// them all.
+fn end_doomed(jobs: &mut [Job], moment: u64)
+    requires { AreOrdered jobs.old }
+    ensures { AllZip (IsFate moment jobs.old) jobs.old jobs.new }
+{
+    for place in 0..jobs.len() {
+        pass(jobs, place, moment);
+    }
+}
+
+fn call_up(job: &mut Job)
+    ensures { job.new ≡ called_up job.old }
+{
+    if job.status.is_in_queue() {
+        job.status = JobStatus::NotStarted;
+    }
+}
+
+fn front_place(jobs: &[Job]) -> Option<usize>
+    ensures { result ≡ position is_unended jobs.now }
+{
+    jobs.iter().position(|job| !job.status.has_ended())
+}
+
+// The first unended job waits no longer.
+fn call_up_front(jobs: &mut [Job])
+    ensures { jobs.new ≡ with_front jobs.old }
+{
+    if let Some(place) = front_place(jobs) {
+        call_up(&mut jobs[place]);
+    }
+}
+
+/// Ends the jobs that are doomed, and calls up the first that is left.
+pub(crate) fn settle(jobs: &mut [Job], moment: u64)
+    requires { AreOrdered jobs.old }
+    ensures { IsSettled moment jobs.old jobs.new }
+{
+    end_doomed(jobs, moment);
+    call_up_front(jobs);
+}
+
+fn end_where(job: &mut Job, moment: u64, number: u32, status: JobStatus, log: Option<Log>)
+    ensures { job.new ≡ ended_where moment number status log job.old }
+{
+    if job.number == number {
+        job.status = status;
+        job.latest = moment;
+        job.end_log = log;
+    }
+}
+
+/// Ends the job of this number.
+pub(crate) fn end_job(
+    jobs: &mut [Job],
+    moment: u64,
+    number: u32,
+    status: JobStatus,
+    log: Option<Log>,
+)
+    ensures { jobs.new ≡ with_job number (ended_job moment status log) jobs.old }
+{
+    for job in jobs.iter_mut() {
+        end_where(job, moment, number, status, log);
+    }
+}
+
+fn oldest_ended(jobs: &[Job]) -> Option<usize>
+    ensures { result ≡ position (λ job. has_ended job.status) jobs.now }
+{
+    jobs.iter().position(|job| job.status.has_ended())
+}
+
+/// Of more than 1,024 jobs the oldest that has ended goes.
+pub(crate) fn drop_oldest(jobs: &mut Vec<Job>)
+    ensures { jobs.new.items ≡ trimmed jobs.old.items }
+{
+    if jobs.len() > MOST_KEPT {
+        if let Some(place) = oldest_ended(jobs) {
+            jobs.remove(place);
+        }
     }
 }
