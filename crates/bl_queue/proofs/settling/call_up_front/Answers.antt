@@ -6,7 +6,7 @@ use Rattle.bl_queue.proofs.settling.call_up_front.Goals as goal
 
 pub returns-in-Some : goal.returns-in-Some
 returns-in-Some c =
-    ap (λ job. set c.args.jobs.now c.in-Some.place job) (c.call_up.ensures ∙ ap called_up c.index-jobs-place.is)
+    ap (λ job. set c.args.jobs.now c.in-Some.place job) c.call_up.ensures
     ∙ sym (called_up_at c.args.jobs.now c.in-Some.place c.index-jobs-place.result (sym c.in-Some.ensures))
 
 pub returns-in_default : goal.returns-in_default
