@@ -34,7 +34,7 @@ passed_none moment before = record { same = refl; done = λ k d below. absurd (o
 
 module _ (moment : ℕ) (before : List Job) (ordered : AreOrdered before) where
   -- a job that failed among those that are done leads there
-  leads : (job old other : Job) → is_unended job ≡ true → IsDependency before job old → has_failed other.status ≡ true → IsFate moment before old other → (walk : List Job) × LeadsToFailure before job walk
+  pub leads : (job old other : Job) → is_unended job ≡ true → IsDependency before job old → has_failed other.status ≡ true → IsFate moment before old other → (walk : List Job) × LeadsToFailure before job walk
   leads job old other unended dependency failed (inl fate) = (old ∷ fate.0.1, (unended, dependency, fate.0.2))
   leads job old other unended dependency failed (inr fate) = (old ∷ [], (unended, dependency, ap (λ (j : Job). has_failed j.status) (sym fate.1) ∙ failed))
 
@@ -75,6 +75,14 @@ module _ (moment : ℕ) (before : List Job) (ordered : AreOrdered before) where
         | inr (inr below) ↦ below
       ]
 
+  pub dependency_stands : (i : ℕ) (job next : Job) → i < length before → get_or before i job ≡ job → is_unended job ≡ true → (dependency : IsDependency before job next) → dependency.0.0 < i
+  dependency_stands i job next within is_job unended dependency =
+      let kept : Contains before next = dependency.0 in
+      let number : number_in next.id ≡ next.number = All-contains (λ (x : Job). number_in x.id ≡ x.number) before next ordered.ids kept in
+      let earlier : All (λ id. number_in id < job.number) job.request.dependencies = All-contains (λ (x : Job). is_unended x ≡ true → All (λ id. number_in id < x.number) x.request.dependencies) before job ordered.earlier (i, within, is_job) unended in
+      let less : number_in next.id < job.number = All-contains (λ id. number_in id < job.number) job.request.dependencies next.id earlier dependency.1 in
+      stands_before i kept.0 job next within kept.1 is_job kept.2 (omega arith)
+
   named_failed : (now : List Job) (i j : ℕ) (job next other : Job) → i ≤ length now → j < i → get_or now j other ≡ other → is_unended job ≡ true → Contains job.request.dependencies next.id → other.id ≡ next.id → has_failed other.status ≡ true → is_blocked (take i now) job ≡ true
   named_failed now i j job next other within below is_other unended named id_is failed =
       let inside : j < length (take i now) = omega (arith, length-take i now) in
@@ -90,10 +98,7 @@ module _ (moment : ℕ) (before : List Job) (ordered : AreOrdered before) where
     walked (next ∷ walk) walks =
         let kept : Contains before next = walks.1.0 in
         let at : get_or before kept.0 next ≡ next = kept.2 in
-        let number : number_in next.id ≡ next.number = All-contains (λ (x : Job). number_in x.id ≡ x.number) before next ordered.ids kept in
-        let earlier : All (λ id. number_in id < job.number) job.request.dependencies = All-contains (λ (x : Job). is_unended x ≡ true → All (λ id. number_in id < x.number) x.request.dependencies) before job ordered.earlier (i, within, is_job) doomed.0 in
-        let less : number_in next.id < job.number = All-contains (λ id. number_in id < job.number) job.request.dependencies next.id earlier walks.1.1 in
-        let below : kept.0 < i = stands_before i kept.0 job next within kept.1 is_job at (omega arith) in
+        let below : kept.0 < i = dependency_stands i job next within is_job doomed.0 walks.1 in
         let other : Job = get_or now kept.0 next in
         let same : length now ≡ length before = passed.same in
         let fate : IsFate moment before next other = subst (λ x. IsFate moment before x other) at (passed.done kept.0 next below) in
@@ -131,6 +136,19 @@ module _ (moment : ℕ) (before : List Job) (ordered : AreOrdered before) where
       sized : (all : List Job) → before ≡ all → length new ≡ length before
       sized [] is = absurd (let e : length before ≡ 0 = ap length is in omega arith)
       sized (d ∷ all) is = ap length (step d) ∙ length-set now i _ ∙ passed.same
+
+pub zip_same : (R : Job → Job → Type 0) (xs ys : List Job) → AllZip R xs ys → length xs ≡ length ys
+zip_same R [] [] zip = refl
+zip_same R [] (y ∷ ys) zip = absurd zip
+zip_same R (x ∷ xs) [] zip = absurd zip
+zip_same R (x ∷ xs) (y ∷ ys) zip = ap suc (zip_same R xs ys zip.1)
+
+pub zip_at : (R : Job → Job → Type 0) (xs ys : List Job) → AllZip R xs ys → (k : ℕ) (d : Job) → k < length xs → R (get_or xs k d) (get_or ys k d)
+zip_at R [] [] zip k d below = absurd (omega arith)
+zip_at R [] (y ∷ ys) zip k d below = absurd zip
+zip_at R (x ∷ xs) [] zip k d below = absurd zip
+zip_at R (x ∷ xs) (y ∷ ys) zip zero d below = zip.0
+zip_at R (x ∷ xs) (y ∷ ys) zip (suc k) d below = zip_at R xs ys zip.1 k d (omega arith)
 
 pub all_zip : (R : Job → Job → Type 0) (xs ys : List Job) → length xs ≡ length ys → ((k : ℕ) (d : Job) → k < length xs → R (get_or xs k d) (get_or ys k d)) → AllZip R xs ys
 all_zip R [] [] same each = tt

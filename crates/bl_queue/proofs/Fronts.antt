@@ -21,14 +21,14 @@ with_front_none (job ∷ jobs) none =
     ap (λ b. cond b (called_up job ∷ jobs) (job ∷ with_front jobs)) (none 0 job (omega arith))
     ∙ ap (λ l. job ∷ l) (with_front_none jobs (λ k d below. none (suc k) d (omega arith)))
 
-none_by : (p : Job → Bool) (jobs : List Job) (b : Bool) → nat_lt (position_or_len p jobs) (length jobs) ≡ b → cond b (Some (position_or_len p jobs)) None ≡ None → length jobs ≤ position_or_len p jobs
-none_by p jobs true is h = absurd (cc)
-none_by p jobs false is h = grind arith
+none_by : {X : Type 0} (p : X → Bool) (xs : List X) (b : Bool) → nat_lt (position_or_len p xs) (length xs) ≡ b → cond b (Some (position_or_len p xs)) None ≡ None → length xs ≤ position_or_len p xs
+none_by p xs true is h = absurd (cc)
+none_by p xs false is h = grind arith
 
-pub none_at : (p : Job → Bool) (jobs : List Job) → position p jobs ≡ None → (k : ℕ) (d : Job) → k < length jobs → p (get_or jobs k d) ≡ false
-none_at p jobs h k d below =
-    let past : length jobs ≤ position_or_len p jobs = none_by p jobs (nat_lt (position_or_len p jobs) (length jobs)) refl h in
-    fails_before_first p jobs k d (omega arith)
+pub none_at : {X : Type 0} (p : X → Bool) (xs : List X) → position p xs ≡ None → (k : ℕ) (d : X) → k < length xs → p (get_or xs k d) ≡ false
+none_at p xs h k d below =
+    let past : length xs ≤ position_or_len p xs = none_by p xs (nat_lt (position_or_len p xs) (length xs)) refl h in
+    fails_before_first p xs k d (omega arith)
 
 pub called_up_at : (jobs : List Job) (i : ℕ) (d : Job) → position is_unended jobs ≡ Some i → with_front jobs ≡ set jobs i (called_up (get_or jobs i d))
 called_up_at jobs i d h =

@@ -1,2 +1,6 @@
 mod Fronts
 pub mod DoomedJobs
+pub mod FatedJobs
+pub mod CalledJobs
+pub mod SettledJobs
+pub mod EndedJobs

@@ -37,12 +37,16 @@ new_job moment number id request =
 abbrev pub trimmed : List Job → List Job
 trimmed jobs = if nat_lt 1024 (length jobs) then remove jobs (position_or_len (λ job. has_ended job.status) jobs) else jobs
 
--- it stands behind all others, which settles them and it, and then the list is trimmed
+-- the list is settled, and then trimmed
+abbrev pub IsTrimmed : ℕ → List Job → List Job → Type 0
+IsTrimmed moment before after = (settled : List Job) × IsSettled moment before settled × (after ≡ trimmed settled)
+
+-- the new job stands behind all others
 abbrev pub IsSubmitted : ℕ → ℕ → LoadRequest → Kept → Kept → Type 0
 IsSubmitted moment id request old new =
     (jobs : List Job)
-    × IsSettled moment (old.jobs ++ new_job moment (old.last + 1) id request ∷ []) jobs
-    × (new ≡ record { last = old.last + 1; jobs = trimmed jobs })
+    × IsTrimmed moment (old.jobs ++ new_job moment (old.last + 1) id request ∷ []) jobs
+    × (new ≡ record { last = old.last + 1; jobs = jobs })
 
 -- ---- a job ends
 

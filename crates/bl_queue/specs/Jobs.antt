@@ -1,11 +1,12 @@
 -- The list of jobs, and what it always is.
 use Rattle.std.specs.Prelude.{◌≡◌, ℕ, ◌<◌, ◌≤◌, ◌%◌, ◌^◌, ◌==◌, Bool, true, false, not, List, [], length, count_by, find, All, AllPairs, Contains, IfSome}
 use Rattle.std.specs.declared.option.Option.{Option}
+use Rattle.std.specs.List.{list_any}
 use Rattle.bl_files.specs.declared.feed.Feed.{Feed}
 use Rattle.bl_files.specs.Carried.{AreFeeds}
 use Rattle.bl_queue.specs.declared.job.Job.{Job}
 use Rattle.bl_queue.specs.declared.job_status.JobStatus.TheVariants.{InQueue}
-use Rattle.bl_queue.specs.Statuses.{has_ended, has_failed, is_in_queue, is_to_start}
+use Rattle.bl_queue.specs.Statuses.{has_ended, has_failed, is_in_progress, is_in_queue, is_open, is_to_start}
 
 -- the last number that was given, and the jobs that are kept, by number
 pub record Kept : Type 0 where
@@ -34,7 +35,15 @@ job_of number jobs = find (λ job. job.number == number) jobs
 abbrev pub IsDependency : List Job → Job → Job → Type 0
 IsDependency jobs job other = Contains jobs other × Contains job.request.dependencies other.id
 
+-- a file of the job hasn't ended
+abbrev pub has_open : Job → Bool
+has_open job = list_any (λ feed. is_open feed.status) job.feeds
+
 -- ---- what a list of jobs always is
+
+-- none of the kept jobs that the job depends on has ended other than completed
+abbrev pub IsUnfailed : List Job → Job → Type 0
+IsUnfailed jobs job = All (λ other. Contains job.request.dependencies other.id → has_failed other.status ≡ false) jobs
 
 -- A job's id ends in its number, which is 1 or more and at most the last one. There are no more runs than jobs.
 pub record IsNumbered (last : ℕ) (job : Job) : Type 0 where
@@ -70,7 +79,9 @@ pub record AreJobs (kept : Kept) : Type 0 where
   pub queued : count_by waits kept.jobs ≤ 64
   -- an unended job depends on earlier ones, none of which has ended other than completed
   pub earlier : All (λ job. is_unended job ≡ true → All (λ id. number_in id < job.number) job.request.dependencies) kept.jobs
-  pub unfailed : (job other : Job) → Contains kept.jobs job → is_unended job ≡ true → IsDependency kept.jobs job other → has_failed other.status ≡ false
+  pub unfailed : All (λ job. is_unended job ≡ true → IsUnfailed kept.jobs job) kept.jobs
+  -- just a job in progress has unended files
+  pub running : All (λ job. has_open job ≡ is_in_progress job.status) kept.jobs
   pub fresh : All (λ job. is_to_start job.status ≡ true → IsFresh job) kept.jobs
   pub feeds : All (λ job. AreFeeds job.feeds) kept.jobs
   pub counts : All (λ job. All HasCounts job.feeds) kept.jobs

@@ -1,5 +1,7 @@
--- What the status of a job says.
+-- What the status of a job and of a file says.
 use Rattle.std.specs.Prelude.{Bool, true, false}
+use Rattle.bl_files.specs.declared.feed_status.FeedStatus.{FeedStatus}
+use Rattle.bl_files.specs.declared.feed_status.FeedStatus.TheVariants as feed
 use Rattle.bl_queue.specs.declared.job_status.JobStatus.{JobStatus}
 use Rattle.bl_queue.specs.declared.job_status.JobStatus.TheVariants.{NotStarted, InQueue, InProgress, Completed, CancelledByUser, Failed, DependencyNotSatisfied}
 
@@ -40,3 +42,23 @@ is_to_start Completed = false
 is_to_start CancelledByUser = false
 is_to_start Failed = false
 is_to_start DependencyNotSatisfied = false
+
+abbrev pub is_in_progress : JobStatus → Bool
+is_in_progress NotStarted = false
+is_in_progress InQueue = false
+is_in_progress InProgress = true
+is_in_progress Completed = false
+is_in_progress CancelledByUser = false
+is_in_progress Failed = false
+is_in_progress DependencyNotSatisfied = false
+
+-- a file of this status hasn't ended
+abbrev pub is_open : FeedStatus → Bool
+is_open feed.NotStarted = true
+is_open feed.InProgress = true
+is_open feed.Completed = false
+is_open feed.Failed = false
+is_open feed.ReadError = false
+is_open feed.Modified = false
+is_open feed.CancelledDueToErrors = false
+is_open feed.CancelledByUser = false

@@ -1,7 +1,7 @@
 // The list of jobs.
-ghost use Rattle.std.specs.Prelude.{◌≡◌, ◌+◌, true, [], IsSomeAnd, IfOk, OnOk, OnErr, None};
+ghost use Rattle.std.specs.Prelude.{◌≡◌, ◌+◌, true, false, [], IsSomeAnd, IfOk, OnOk, OnErr, None};
 ghost use Rattle.std.specs.Result.{result_err};
-ghost use Rattle.bl_queue.specs.Jobs.{AreJobs, is_unended, job_of, number_in};
+ghost use Rattle.bl_queue.specs.Jobs.{AreJobs, has_open, is_unended, job_of, number_in};
 ghost use Rattle.bl_queue.specs.Checks.{refusal};
 ghost use Rattle.bl_queue.specs.Previous.{front, previous};
 ghost use Rattle.bl_queue.specs.Statuses.{has_ended};
@@ -9,7 +9,7 @@ ghost use Rattle.bl_queue.specs.Changes.{IsEnded, IsSubmitted, new_job};
 
 use crate::checking::{busy, full, too_many, unknown, used_up};
 use crate::searching::{front_of, job_of, previous_of};
-use crate::settling::{drop_oldest, end_job, settle};
+use crate::settling::{with_ended, with_settled};
 use crate::{CheckRefusal, Job, JobStatus};
 use bl_files::{LoadRequest, Log};
 use bl_outside::{List, NoMemory};
@@ -135,10 +135,8 @@ impl Jobs {
     {
         let number = self.last + 1;
         self.jobs.push(new_job(self.alloc, moment, number, id, request))?;
-        let mut jobs = mem::replace(&mut self.jobs, List::new(self.alloc)).into_vec();
-        settle(&mut jobs, moment);
-        drop_oldest(&mut jobs);
-        self.jobs = List::from_vec(jobs);
+        let jobs = mem::replace(&mut self.jobs, List::new(self.alloc));
+        self.jobs = with_settled(jobs, moment);
         self.last = number;
         Ok(number)
     }
@@ -146,14 +144,12 @@ impl Jobs {
     /// Ends a job, and with it each that can't come to its turn any more. The first that is left
     /// is then the next to start. It takes no memory.
     pub fn end(&mut self, moment: u64, job: u32, status: JobStatus, log: Option<Log>)
-        requires unended { IsSomeAnd (job_of job self.old.jobs) (λ it. is_unended it ≡ true) }
+        requires unended { IsSomeAnd (job_of job self.old.jobs) (λ it. (is_unended it ≡ true) × (has_open it ≡ false)) }
         requires ended { has_ended status ≡ true }
         ensures { IsEnded moment job status log self.old self.new }
     {
-        let mut jobs = mem::replace(&mut self.jobs, List::new(self.alloc)).into_vec();
-        end_job(&mut jobs, moment, job, status, log);
-        settle(&mut jobs, moment);
-        self.jobs = List::from_vec(jobs);
+        let jobs = mem::replace(&mut self.jobs, List::new(self.alloc));
+        self.jobs = with_ended(jobs, moment, job, status, log);
     }
 }
 

@@ -1,7 +1,7 @@
 // The list after a job has ended or was taken on.
 ghost use Rattle.std.specs.Prelude.{◌≡◌, ◌<◌, length, position, slice_index_or, slice_set, take};
 ghost use Rattle.std.specs.List.{AllZip, list_any};
-ghost use Rattle.bl_queue.specs.Changes.{ended_job, trimmed, with_job};
+ghost use Rattle.bl_queue.specs.Changes.{IsTrimmed, ended_job, trimmed, with_job};
 ghost use Rattle.bl_queue.specs.Doomed.{IsFate, IsSettled, called_up, unsatisfied, with_front};
 ghost use Rattle.bl_queue.specs.Pass.{AreOrdered, after_pass, ended_where, failed_id, is_blocked};
 ghost use Rattle.bl_queue.specs.declared.job.Job.{Job as JobValue};
@@ -11,6 +11,7 @@ ghost use Rattle.bl_queue.specs.Statuses.{has_ended};
 use crate::jobs::MOST_KEPT;
 use crate::{Job, JobStatus};
 use bl_files::Log;
+use bl_outside::List;
 
 fn failed_id(jobs: &[Job], id: u128) -> bool
     ensures { result ≡ failed_id jobs.now id }
@@ -91,8 +92,8 @@ fn call_up_front(jobs: &mut [Job])
     }
 }
 
-/// Ends the jobs that are doomed, and calls up the first that is left.
-pub(crate) fn settle(jobs: &mut [Job], moment: u64)
+// Ends the jobs that are doomed, and calls up the first that is left.
+fn settle(jobs: &mut [Job], moment: u64)
     requires { AreOrdered jobs.old }
     ensures { IsSettled moment jobs.old jobs.new }
 {
@@ -110,8 +111,8 @@ fn end_where(job: &mut Job, moment: u64, number: u32, status: JobStatus, log: Op
     }
 }
 
-/// Ends the job of this number.
-pub(crate) fn end_job(
+// Ends the job of this number.
+fn end_job(
     jobs: &mut [Job],
     moment: u64,
     number: u32,
@@ -131,8 +132,8 @@ fn oldest_ended(jobs: &[Job]) -> Option<usize>
     jobs.iter().position(|job| job.status.has_ended())
 }
 
-/// Of more than 1,024 jobs the oldest that has ended goes.
-pub(crate) fn drop_oldest(jobs: &mut Vec<Job>)
+// Of more than 1,024 jobs the oldest that has ended goes.
+fn drop_oldest(jobs: &mut Vec<Job>)
     ensures { jobs.new.items ≡ trimmed jobs.old.items }
 {
     if jobs.len() > MOST_KEPT {
@@ -140,4 +141,32 @@ pub(crate) fn drop_oldest(jobs: &mut Vec<Job>)
             jobs.remove(place);
         }
     }
+}
+
+/// The list with the job of this number ended, and the others settled.
+pub(crate) fn with_ended(
+    jobs: List<Job>,
+    moment: u64,
+    number: u32,
+    status: JobStatus,
+    log: Option<Log>,
+) -> List<Job>
+    requires { AreOrdered (with_job number (ended_job moment status log) jobs) }
+    ensures { IsSettled moment (with_job number (ended_job moment status log) jobs) result }
+{
+    let mut jobs = jobs.into_vec();
+    end_job(&mut jobs, moment, number, status, log);
+    settle(&mut jobs, moment);
+    List::from_vec(jobs)
+}
+
+/// The list with all jobs settled, and trimmed.
+pub(crate) fn with_settled(jobs: List<Job>, moment: u64) -> List<Job>
+    requires { AreOrdered jobs }
+    ensures { IsTrimmed moment jobs result }
+{
+    let mut jobs = jobs.into_vec();
+    settle(&mut jobs, moment);
+    drop_oldest(&mut jobs);
+    List::from_vec(jobs)
 }
