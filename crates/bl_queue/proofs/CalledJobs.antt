@@ -1,7 +1,7 @@
 -- What a list of jobs keeps when its first unended job is called up.
-use Rattle.std.specs.Prelude.{◌≡◌, ◌+◌, ◌<◌, ◌≤◌, ℕ, Bool, true, false, not, cond, List, [], ◌∷◌, length, count_by, find, refl, All, AllPairs, Contains, IfSome, Some}
-use Rattle.std.proofs.Common.{sym, ap, subst, ◌∙◌, arith, get_or, suc}
-use Rattle.std.proofs.lemmas.Bool.{cases_Bool, true≢false, cond_both}
+use Rattle.std.specs.Prelude.{◌≡◌, ◌<◌, ◌≤◌, ℕ, Bool, true, false, not, cond, List, [], ◌∷◌, length, count_by, refl, All, AllPairs, Contains, IfSome, Some}
+use Rattle.std.proofs.Common.{sym, ap, subst, ◌∙◌, arith, suc}
+use Rattle.std.proofs.lemmas.Bool.{true≢false, cond_both}
 use Rattle.std.proofs.lemmas.List.Elements.{All-cons, All-head, All-nil, All-tail, All-weaker}
 use Rattle.std.proofs.lemmas.List.Kept.{AllPairs-cons}
 use Rattle.bl_files.specs.Carried.{AreFeeds}

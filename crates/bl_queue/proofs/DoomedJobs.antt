@@ -1,11 +1,11 @@
 -- A job is blocked in the pass exactly where it is doomed.
 use Rattle.std.specs.Prelude.{◌≡◌, ◌+◌, ◌<◌, ◌≤◌, ℕ, ◌==◌, Bool, true, false, not, ◌&&◌, cond, List, [], ◌∷◌, length, take, refl, All, Any, Contains}
-use Rattle.std.proofs.Common.{sym, ap, subst, ◌∙◌, arith, inl, inr, get_or, set, suc, zero, ◌⊎◌, get_or-take, get_or-set_same, get_or-set_other, length-set}
+use Rattle.std.proofs.Common.{sym, ap, subst, ◌∙◌, arith, inl, inr, get_or, set, suc, zero, get_or-take, get_or-set_same, get_or-set_other, length-set}
 use Rattle.std.specs.List.{AllZip, list_any}
 use Rattle.std.proofs.lemmas.Bool.{and_parts, and_from, eqb-true, eq-eqb, cases_order, true≢false, cases_eq}
 use Rattle.std.proofs.lemmas.List.{get_or_default, length-take}
 use Rattle.std.proofs.lemmas.List.Elements.{All-contains}
-use Rattle.std.proofs.lemmas.List.Folds.{Any-from_list_any, list_any-from_Any, list_any_at}
+use Rattle.std.proofs.lemmas.List.Folds.{Any-from_list_any, list_any_at}
 use Rattle.bl_queue.specs.declared.job.Job.{Job}
 use Rattle.bl_queue.specs.declared.job_status.JobStatus.{JobStatus}
 use Rattle.bl_queue.specs.declared.job_status.JobStatus.TheVariants.{NotStarted, InQueue, InProgress, Completed, CancelledByUser, Failed, DependencyNotSatisfied}
@@ -125,12 +125,14 @@ module _ (moment : ℕ) (before : List Job) (ordered : AreOrdered before) where
   } where
     away : (k : ℕ) (d : Job) → (k ≡ i → ⊥) → get_or new k d ≡ get_or now k d
     away k d other = ap (λ l. get_or l k d) (step d) ∙ get_or-set_other now i k _ d other
+
     here : (d : Job) → IsFate moment before (get_or before i d) (get_or new i d)
     here d =
         let same : length now ≡ length before = passed.same in
         let at : get_or now i d ≡ get_or before i d = passed.rest i d (omega arith) in
         let is : get_or new i d ≡ after_pass moment (take i now) (get_or before i d) = ap (λ l. get_or l i d) (step d) ∙ get_or-set_same now i _ d (omega arith) ∙ ap (after_pass moment (take i now)) at in
         subst (λ x. IsFate moment before (get_or before i d) x) (sym is) (fate now i d passed within)
+
     more_same : length new ≡ length before
     more_same = sized before refl where
       sized : (all : List Job) → before ≡ all → length new ≡ length before

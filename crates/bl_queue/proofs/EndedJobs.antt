@@ -1,20 +1,19 @@
 -- The list in which one job has ended, before the others settle.
-use Rattle.std.specs.Prelude.{◌≡◌, ◌+◌, ◌<◌, ◌≤◌, ℕ, ◌==◌, Bool, true, false, not, cond, List, [], ◌∷◌, length, map, count_by, find, refl, All, AllPairs, Contains, IsSomeAnd, Some}
+use Rattle.std.specs.Prelude.{◌≡◌, ◌<◌, ℕ, ◌==◌, Bool, true, false, not, cond, List, [], ◌∷◌, length, map, refl, All, AllPairs, Contains, IsSomeAnd, Some}
 use Rattle.std.specs.declared.option.Option.{Option}
-use Rattle.std.proofs.Common.{sym, ap, subst, ◌∙◌, arith, inl, inr, get_or, suc, zero, ◌⊎◌}
+use Rattle.std.proofs.Common.{sym, ap, subst, ◌∙◌, arith, get_or, suc, zero}
 use Rattle.std.specs.List.{AllZip}
-use Rattle.std.proofs.lemmas.Bool.{cases_Bool, true≢false, cond_both, eqb-true, eq-eqb, ne_eqb}
+use Rattle.std.proofs.lemmas.Bool.{true≢false, cond_both, eqb-true, eq-eqb, ne_eqb}
 use Rattle.std.proofs.lemmas.List.{get_or_default, get_or-map, length-map}
-use Rattle.std.proofs.lemmas.List.Elements.{All-contains, All-map}
+use Rattle.std.proofs.lemmas.List.Elements.{All-map}
 use Rattle.bl_files.specs.Carried.{AreFeeds}
 use Rattle.bl_files.specs.declared.log.Log.{Log}
 use Rattle.bl_queue.specs.declared.job.Job.{Job}
 use Rattle.bl_queue.specs.declared.job_status.JobStatus.{JobStatus}
 use Rattle.bl_queue.specs.declared.job_status.JobStatus.TheVariants.{NotStarted, InQueue, InProgress, Completed, CancelledByUser, Failed, DependencyNotSatisfied}
-use Rattle.bl_queue.specs.Statuses.{has_ended, has_failed, is_in_progress, is_in_queue, is_to_start}
-use Rattle.bl_queue.specs.Jobs.{AreJobs, HasCounts, IsDependency, IsFresh, IsNumbered, IsUnfailed, Kept, has_open, is_unended, job_of, number_in, waits}
+use Rattle.bl_queue.specs.Statuses.{has_ended, has_failed, is_in_progress, is_to_start}
+use Rattle.bl_queue.specs.Jobs.{AreJobs, HasCounts, IsFresh, IsNumbered, IsUnfailed, Kept, has_open, is_unended, job_of, number_in, waits}
 use Rattle.bl_queue.specs.Changes.{ended_job, with_job}
-use Rattle.bl_queue.specs.Pass.{AreOrdered}
 use Rattle.bl_queue.proofs.DoomedJobs.{dependency_stands}
 use Rattle.bl_queue.proofs.FatedJobs.{AreSteady, fewer_wait, ordered}
 use Rattle.bl_queue.proofs.CalledJobs.{pairs_head, pairs_tail, queued_unended}
@@ -120,7 +119,7 @@ module _ (moment number : ℕ) (status : JobStatus) (log : Option Log) (kept : K
 
   change_running : All (λ job. has_open job ≡ is_in_progress job.status) (map change kept.jobs)
   change_running = All-map (λ job. has_open job ≡ is_in_progress job.status) change kept.jobs (λ k d below.
-    change_by (λ job. has_open job ≡ is_in_progress job.status) (get_or kept.jobs k d) (λ h. (found_job k d below h).1 ∙ sym (ended_rests status ends)) (are.running k d below))
+      change_by (λ job. has_open job ≡ is_in_progress job.status) (get_or kept.jobs k d) (λ h. (found_job k d below h).1 ∙ sym (ended_rests status ends)) (are.running k d below))
 
   pub ended_steady : AreSteady kept.last (with_job number (ended_job moment status log) kept.jobs)
   ended_steady = record {
@@ -152,4 +151,4 @@ module _ (moment number : ℕ) (status : JobStatus) (log : Option Log) (kept : K
 
   pub ended_calm : All (λ job. is_in_progress job.status ≡ true → IsUnfailed (with_job number (ended_job moment status log) kept.jobs) job) (with_job number (ended_job moment status log) kept.jobs)
   ended_calm = All-map (λ job. is_in_progress job.status ≡ true → IsUnfailed (map change kept.jobs) job) change kept.jobs (λ k d below.
-    change_by (λ job. is_in_progress job.status ≡ true → IsUnfailed (map change kept.jobs) job) (get_or kept.jobs k d) (λ h running. absurd (true≢false (sym running ∙ ended_rests status ends))) (calm_at k d below))
+      change_by (λ job. is_in_progress job.status ≡ true → IsUnfailed (map change kept.jobs) job) (get_or kept.jobs k d) (λ h running. absurd (true≢false (sym running ∙ ended_rests status ends))) (calm_at k d below))

@@ -1,16 +1,15 @@
 -- What a list of jobs keeps when the doomed ones end.
-use Rattle.std.specs.Prelude.{◌≡◌, ◌+◌, ◌<◌, ◌≤◌, ℕ, Bool, true, false, not, cond, List, [], ◌∷◌, length, count_by, refl, All, AllPairs, Contains}
-use Rattle.std.proofs.Common.{sym, ap, subst, ◌∙◌, arith, inl, inr, get_or, ◌⊎◌}
-use Rattle.std.specs.List.{AllZip, list_any}
+use Rattle.std.specs.Prelude.{◌≡◌, ◌+◌, ◌<◌, ◌≤◌, ℕ, Bool, true, false, cond, List, [], ◌∷◌, length, count_by, refl, All, AllPairs, Contains}
+use Rattle.std.proofs.Common.{sym, ap, subst, ◌∙◌, arith, inl, inr, get_or}
+use Rattle.std.specs.List.{AllZip}
 use Rattle.std.proofs.lemmas.Bool.{cases_Bool, true≢false}
 use Rattle.std.proofs.lemmas.List.{get_or_default}
 use Rattle.std.proofs.lemmas.List.Elements.{All-contains, All-weaker}
 use Rattle.std.proofs.lemmas.List.Sums.{sum_by-cons}
 use Rattle.bl_files.specs.Carried.{AreFeeds}
 use Rattle.bl_queue.specs.declared.job.Job.{Job}
-use Rattle.bl_queue.specs.declared.job_status.JobStatus.{JobStatus}
-use Rattle.bl_queue.specs.declared.job_status.JobStatus.TheVariants.{InQueue, DependencyNotSatisfied}
-use Rattle.bl_queue.specs.Statuses.{has_ended, has_failed, is_in_progress, is_in_queue, is_to_start}
+use Rattle.bl_queue.specs.declared.job_status.JobStatus.TheVariants.{InQueue}
+use Rattle.bl_queue.specs.Statuses.{has_failed, is_in_progress, is_to_start}
 use Rattle.bl_queue.specs.Jobs.{HasCounts, IsDependency, IsFresh, IsNumbered, IsUnfailed, has_open, is_unended, number_in, waits}
 use Rattle.bl_queue.specs.Doomed.{IsDoomed, IsFate, LeadsToFailure, unsatisfied}
 use Rattle.bl_queue.specs.Pass.{AreOrdered}
@@ -58,16 +57,16 @@ module _ (moment last : ℕ) (before : List Job) (steady : AreSteady last before
         | inl running ↦ absurd (walked running doomed.1 doomed.2)
         | inr resting ↦ resting
       ] where
-    walked : is_in_progress job.status ≡ true → (walk : List Job) → LeadsToFailure before job walk → ⊥
-    walked running [] failed = not_failed job.status doomed.0 failed
-    walked running (next ∷ []) walks =
-        let unfailed : IsUnfailed before job = All-contains (λ (x : Job). is_in_progress x.status ≡ true → IsUnfailed before x) before job calm kept running in
-        true≢false (sym walks.2 ∙ All-contains (λ (x : Job). Contains job.request.dependencies x.id → has_failed x.status ≡ false) before next unfailed walks.1.0 walks.1.1)
-    walked running (next ∷ after ∷ walk) walks =
-        let below : walks.1.0.0 < kept.0 = dependency_stands moment before (ordered last before steady) kept.0 job next kept.1 kept.2 doomed.0 walks.1 in
-        let is_next : get_or before walks.1.0.0 job ≡ next = get_or_default before walks.1.0.0 job next walks.1.0.1 ∙ walks.1.0.2 in
-        let queued : (get_or before kept.0 job).status ≡ InQueue = steady.behind walks.1.0.0 kept.0 job below kept.1 (ap is_unended is_next ∙ walks.2.0) (ap is_unended kept.2 ∙ doomed.0) in
-        true≢false (sym running ∙ ap (λ (x : Job). is_in_progress x.status) (sym kept.2) ∙ ap is_in_progress queued)
+        walked : is_in_progress job.status ≡ true → (walk : List Job) → LeadsToFailure before job walk → ⊥
+        walked running [] failed = not_failed job.status doomed.0 failed
+        walked running (next ∷ []) walks =
+            let unfailed : IsUnfailed before job = All-contains (λ (x : Job). is_in_progress x.status ≡ true → IsUnfailed before x) before job calm kept running in
+            true≢false (sym walks.2 ∙ All-contains (λ (x : Job). Contains job.request.dependencies x.id → has_failed x.status ≡ false) before next unfailed walks.1.0 walks.1.1)
+        walked running (next ∷ after ∷ walk) walks =
+            let below : walks.1.0.0 < kept.0 = dependency_stands moment before (ordered last before steady) kept.0 job next kept.1 kept.2 doomed.0 walks.1 in
+            let is_next : get_or before walks.1.0.0 job ≡ next = get_or_default before walks.1.0.0 job next walks.1.0.1 ∙ walks.1.0.2 in
+            let queued : (get_or before kept.0 job).status ≡ InQueue = steady.behind walks.1.0.0 kept.0 job below kept.1 (ap is_unended is_next ∙ walks.2.0) (ap is_unended kept.2 ∙ doomed.0) in
+            true≢false (sym running ∙ ap (λ (x : Job). is_in_progress x.status) (sym kept.2) ∙ ap is_in_progress queued)
 
   by_fate : (P : Job → Type 0) (old new : Job) → IsFate moment before old new → (IsDoomed before old → P (unsatisfied moment old)) → P old → P new
   by_fate P old new (inl fate) doomed stays = subst P (sym fate.1) (doomed fate.0)

@@ -1,6 +1,6 @@
 -- The first unended job, and the list in which it is called up.
-use Rattle.std.specs.Prelude.{◌≡◌, ◌+◌, ◌<◌, ◌≤◌, ℕ, nat_lt, Bool, true, false, cond, List, [], ◌∷◌, length, position, refl, Some, None}
-use Rattle.std.proofs.Common.{sym, ap, ◌∙◌, arith, get_or, set, suc, zero}
+use Rattle.std.specs.Prelude.{◌≡◌, ◌<◌, ◌≤◌, ℕ, nat_lt, Bool, true, false, cond, List, [], ◌∷◌, length, position, refl, Some, None}
+use Rattle.std.proofs.Common.{ap, ◌∙◌, arith, get_or, set, suc, zero}
 use Rattle.std.specs.List.{position_or_len}
 use Rattle.std.proofs.lemmas.List.Sums.{fails_before_first}
 use Rattle.std.proofs.lemmas.List.Quantifiers.{position-Some}

@@ -1,6 +1,6 @@
 -- A list of jobs that has settled.
 use Rattle.std.specs.Prelude.{◌≡◌, ◌≤◌, ℕ, true, false, List, length, All, IfSome}
-use Rattle.std.proofs.Common.{sym, ap, subst, ◌∙◌, arith}
+use Rattle.std.proofs.Common.{sym, ap, subst, ◌∙◌}
 use Rattle.bl_queue.specs.declared.job.Job.{Job}
 use Rattle.bl_queue.specs.Statuses.{is_in_progress}
 use Rattle.bl_queue.specs.Jobs.{AreJobs, IsUnfailed, front_job, is_unended, waits}

@@ -1,5 +1,5 @@
 -- What the calls do to the list of jobs.
-use Rattle.std.specs.Prelude.{◌≡◌, ℕ, ◌+◌, ◌==◌, nat_lt, Bool, if◌then◌else◌, List, [], ◌∷◌, ◌++◌, length, map, remove, None}
+use Rattle.std.specs.Prelude.{◌≡◌, ℕ, ◌+◌, ◌==◌, nat_lt, if◌then◌else◌, List, [], ◌∷◌, ◌++◌, length, map, remove, None}
 use Rattle.std.specs.declared.option.Option.{Option}
 use Rattle.std.specs.List.{position_or_len}
 use Rattle.bl_files.specs.declared.load_request.LoadRequest.{LoadRequest}

@@ -60,10 +60,7 @@ pub(crate) fn busy(jobs: &[Job], request: &LoadRequest) -> Option<CheckRefusal>
 pub(crate) fn full(jobs: &[Job]) -> Option<CheckRefusal>
     ensures { result ≡ full jobs.now }
 {
-    let waiting = jobs
-        .iter()
-        .filter(|job| job.status.is_in_queue())
-        .count();
+    let waiting = jobs.iter().filter(|job| job.status.is_in_queue()).count();
     if waiting == MOST_QUEUED {
         Some(CheckRefusal::QueueFull)
     } else {

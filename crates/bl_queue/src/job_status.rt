@@ -33,9 +33,8 @@ impl JobStatus {
         ensures { result ≡ has_failed self }
     {
         match self {
-            JobStatus::CancelledByUser
-            | JobStatus::Failed
-            | JobStatus::DependencyNotSatisfied => true,
+            JobStatus::CancelledByUser | JobStatus::Failed | JobStatus::DependencyNotSatisfied =>
+                true,
             _ => false,
         }
     }

@@ -121,12 +121,7 @@ impl Jobs {
     /// Takes a load on, and gives its number. It waits behind all others, or is the next to start, or
     /// ends at once where a load that it depends on ended otherwise than completed. Of more than
     /// 1,024 jobs the oldest that has ended is dropped.
-    pub fn submit(
-        &mut self,
-        moment: u64,
-        id: u128,
-        request: LoadRequest,
-    ) -> Result<u32, NoMemory>
+    pub fn submit(&mut self, moment: u64, id: u128, request: LoadRequest) -> Result<u32, NoMemory>
         requires taken_on { refusal self.old request ≡ None }
         requires id { number_in id ≡ self.old.last + 1 }
         ensures number { IfOk result (λ number. number ≡ self.old.last + 1) }
@@ -134,7 +129,8 @@ impl Jobs {
         ensures err { OnErr result (self.new ≡ self.old) }
     {
         let number = self.last + 1;
-        self.jobs.push(new_job(self.alloc, moment, number, id, request))?;
+        self.jobs
+            .push(new_job(self.alloc, moment, number, id, request))?;
         let jobs = mem::replace(&mut self.jobs, List::new(self.alloc));
         self.jobs = with_settled(jobs, moment);
         self.last = number;

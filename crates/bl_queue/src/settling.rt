@@ -112,13 +112,7 @@ fn end_where(job: &mut Job, moment: u64, number: u32, status: JobStatus, log: Op
 }
 
 // Ends the job of this number.
-fn end_job(
-    jobs: &mut [Job],
-    moment: u64,
-    number: u32,
-    status: JobStatus,
-    log: Option<Log>,
-)
+fn end_job(jobs: &mut [Job], moment: u64, number: u32, status: JobStatus, log: Option<Log>)
     ensures { jobs.new ≡ with_job number (ended_job moment status log) jobs.old }
 {
     for job in jobs.iter_mut() {

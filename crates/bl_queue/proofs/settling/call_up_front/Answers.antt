@@ -1,5 +1,4 @@
-use Rattle.std.proofs.Common.{◌≡◌, sym, ap, ◌∙◌, set, get_or}
-use Rattle.bl_queue.specs.Doomed.{called_up, with_front}
+use Rattle.std.proofs.Common.{sym, ap, ◌∙◌, set}
 use Rattle.bl_queue.proofs.Fronts.{called_up_at, none_at, with_front_none}
 use Rattle.bl_queue.specs.Jobs.{is_unended}
 use Rattle.bl_queue.proofs.settling.call_up_front.Goals as goal

@@ -1,4 +1,4 @@
-use Rattle.std.proofs.Common.{arith, sym, refl}
+use Rattle.std.proofs.Common.{arith, sym}
 use Rattle.bl_queue.specs.Doomed.{IsFate}
 use Rattle.bl_queue.proofs.DoomedJobs.{all_zip, passed_more, passed_none}
 use Rattle.bl_queue.proofs.settling.end_doomed.Goals as goal

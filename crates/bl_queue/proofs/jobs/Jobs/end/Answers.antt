@@ -1,4 +1,4 @@
-use Rattle.std.proofs.Common.{◌≡◌, ◌≤◌, true, false, IsSomeAnd, sym, ap, subst, ◌∙◌, arith, length, List}
+use Rattle.std.proofs.Common.{◌≡◌, true, false, IsSomeAnd, sym, subst, arith, length, List}
 use Rattle.std.proofs.lemmas.List.{length-map}
 use Rattle.bl_queue.specs.declared.job.Job.{Job}
 use Rattle.bl_queue.specs.Jobs.{Kept, has_open, is_unended, job_of}
