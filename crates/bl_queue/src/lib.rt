@@ -24,3 +24,6 @@ pub use checking::{MOST_DEPENDENCIES, MOST_QUEUED};
 pub use job::Job;
 pub use job_status::JobStatus;
 pub use jobs::{Jobs, MOST_KEPT};
+
+#[cfg(test)]
+mod tests;
