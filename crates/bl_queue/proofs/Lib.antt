@@ -3,6 +3,6 @@ pub mod DoomedJobs
 pub mod FatedJobs
 pub mod CalledJobs
 pub mod SettledJobs
-pub mod EndedJobs
+pub mod ChangedJobs
 pub mod TrimmedJobs
 pub mod SubmittedJobs

@@ -22,7 +22,7 @@ use Rattle.bl_queue.specs.Checks.{busy, full, has_id, refusal, too_many, unknown
 use Rattle.bl_queue.specs.Changes.{new_job}
 use Rattle.bl_queue.proofs.Fronts.{none_at}
 use Rattle.bl_queue.proofs.FatedJobs.{AreSteady}
-use Rattle.bl_queue.proofs.EndedJobs.{running_unended}
+use Rattle.bl_queue.proofs.ChangedJobs.{running_unended}
 
 pub no_feeds : AreFeeds []
 unfolding IsDistinct

@@ -5,3 +5,4 @@ pub mod Previous
 pub mod Doomed
 pub mod Changes
 pub mod Pass
+pub mod Runs

@@ -1,0 +1,87 @@
+-- What becomes of a job when it is started, goes on, has a file ended, and is cancelled.
+use Rattle.std.specs.Prelude.{◌≡◌, ℕ, suc, zero, ◌+◌, ◌==◌, Bool, true, false, not, ◌&&◌, ◌||◌, if◌then◌else◌, List, [], ◌∷◌, length, map, count_by, slice_get, IfSome, None, Some}
+use Rattle.std.specs.declared.option.Option.{Option}
+use Rattle.std.specs.List.{list_all}
+use Rattle.bl_outside.specs.declared.digest.Digest.{Digest}
+use Rattle.bl_value.specs.declared.log_code.LogCode.{LogCode}
+use Rattle.bl_value.specs.declared.log_code.LogCode.TheVariants.{FeedModified, ListFault, NoPreviousLoad, ReadFault, SourceNotFound, TooManyFiles}
+use Rattle.bl_files.specs.declared.counts.Counts.{Counts}
+use Rattle.bl_files.specs.declared.error_class.ErrorClass.{ErrorClass}
+use Rattle.bl_files.specs.declared.feed.Feed.{Feed}
+use Rattle.bl_files.specs.declared.feed_end.FeedEnd.{FeedEnd}
+use Rattle.bl_files.specs.declared.feed_end.FeedEnd.TheVariants as end
+use Rattle.bl_files.specs.declared.feed_status.FeedStatus.{FeedStatus}
+use Rattle.bl_files.specs.declared.feed_status.FeedStatus.TheVariants as feed
+use Rattle.bl_files.specs.declared.log.Log.{Log}
+use Rattle.bl_files.specs.Carried.{is_completed}
+use Rattle.bl_queue.specs.declared.job.Job.{Job}
+use Rattle.bl_queue.specs.declared.job_status.JobStatus.{JobStatus}
+use Rattle.bl_queue.specs.declared.job_status.JobStatus.TheVariants.{CancelledByUser, Completed, Failed}
+use Rattle.bl_queue.specs.Statuses.{is_open}
+use Rattle.bl_queue.specs.Jobs.{Kept, has_open}
+use Rattle.bl_queue.specs.Changes.{with_job}
+use Rattle.bl_queue.specs.Doomed.{IsSettled}
+
+-- the job is changed, which settles the others
+abbrev pub IsChanged : ℕ → ℕ → (Job → Job) → Kept → Kept → Type 0
+IsChanged moment number change old new = (jobs : List Job) × IsSettled moment (with_job number change old.jobs) jobs × (new ≡ record old { jobs = jobs })
+
+-- each file that hasn't ended ends with this status
+abbrev pub with_open_ended : FeedStatus → List Feed → List Feed
+with_open_ended status feeds = map (λ feed. if is_open feed.status then record feed { status = status } else feed) feeds
+
+-- ---- the job is cancelled
+
+abbrev pub cancelled_job : ℕ → Job → Job
+cancelled_job moment job = record job { status = CancelledByUser; latest = moment; feeds = with_open_ended feed.CancelledByUser job.feeds }
+
+-- ---- a file ends
+
+abbrev pub end_status : FeedEnd → FeedStatus
+end_status end.Completed = feed.Completed
+end_status (end.Stopped log) = feed.Failed
+end_status end.ReadError = feed.ReadError
+end_status end.Modified = feed.Modified
+
+-- a log that is about no record
+abbrev pub bare_log : LogCode → Log
+bare_log code = record { code = code; number = 0; column = 0 }
+
+abbrev pub end_log : FeedEnd → Option Log
+end_log end.Completed = None
+end_log (end.Stopped log) = Some log
+end_log end.ReadError = Some (bare_log ReadFault)
+end_log end.Modified = Some (bare_log FeedModified)
+
+abbrev pub ended_feed : FeedEnd → Feed → Feed
+ended_feed how feed = record feed { status = end_status how; end_log = end_log how }
+
+-- The end of one file stops the job: where it could not be read, and where the load stops at errors, each but a whole one.
+abbrev pub stops : Bool → FeedEnd → Bool
+stops fail_on_error end.Completed = false
+stops fail_on_error (end.Stopped log) = fail_on_error
+stops fail_on_error end.ReadError = true
+stops fail_on_error end.Modified = fail_on_error
+
+-- the file at this place is changed
+abbrev pub with_feed : ℕ → (Feed → Feed) → List Feed → List Feed
+with_feed zero change [] = []
+with_feed (suc place) change [] = []
+with_feed zero change (feed ∷ feeds) = change feed ∷ feeds
+with_feed (suc place) change (feed ∷ feeds) = feed ∷ with_feed place change feeds
+
+-- and where its end stops the job, each other one that hasn't ended ends
+abbrev pub feeds_after : Bool → ℕ → FeedEnd → List Feed → List Feed
+feeds_after fail_on_error place how feeds =
+    if stops fail_on_error how then with_open_ended feed.CancelledDueToErrors (with_feed place (ended_feed how) feeds) else with_feed place (ended_feed how) feeds
+
+-- a job all of whose files are completed is completed, and else it failed
+abbrev pub whole_status : List Feed → JobStatus
+whole_status feeds = if list_all (λ feed. is_completed feed.status) feeds then Completed else Failed
+
+-- the job has ended where each of its files has
+abbrev pub closed : Job → Job
+closed job = if has_open job then job else record job { status = whole_status job.feeds }
+
+abbrev pub job_after_feed : ℕ → ℕ → FeedEnd → Job → Job
+job_after_feed moment place how job = closed (record job { latest = moment; feeds = feeds_after job.request.fail_on_error place how job.feeds })
