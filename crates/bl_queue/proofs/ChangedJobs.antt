@@ -63,7 +63,7 @@ found_at number (job ∷ jobs) up (suc k) d below is =
     ap (λ b. cond b (Some job) (job_of number jobs)) (ne_eqb job.number number (λ (e : job.number ≡ number). omega arith))
     ∙ found_at number jobs (pairs_tail (λ a b. a.number < b.number) job jobs up) k d (omega arith) is
 
-some_is : (a b : Job) → Some a ≡ Some b → a ≡ b
+pub some_is : (a b : Job) → Some a ≡ Some b → a ≡ b
 some_is a b h = cc
 
 pub some_and : (o : Option Job) (P : Job → Type 0) → IsSomeAnd o P → (job : Job) × (o ≡ Some job) × P job

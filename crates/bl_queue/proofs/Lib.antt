@@ -6,3 +6,6 @@ pub mod SettledJobs
 pub mod ChangedJobs
 pub mod TrimmedJobs
 pub mod SubmittedJobs
+mod Placed
+mod EndedFeeds
+pub mod RunChanges

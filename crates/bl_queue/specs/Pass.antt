@@ -1,13 +1,9 @@
 -- One pass from front to back over a list of jobs.
 use Rattle.std.specs.Prelude.{◌≡◌, ℕ, ◌<◌, ◌==◌, Bool, true, ◌&&◌, if◌then◌else◌, List, All, AllPairs}
-use Rattle.std.specs.declared.option.Option.{Option}
 use Rattle.std.specs.List.{list_any}
-use Rattle.bl_files.specs.declared.log.Log.{Log}
 use Rattle.bl_queue.specs.declared.job.Job.{Job}
-use Rattle.bl_queue.specs.declared.job_status.JobStatus.{JobStatus}
 use Rattle.bl_queue.specs.Statuses.{has_failed}
 use Rattle.bl_queue.specs.Jobs.{is_unended, number_in}
-use Rattle.bl_queue.specs.Changes.{ended_job}
 use Rattle.bl_queue.specs.Doomed.{unsatisfied}
 
 -- the job of this id ended other than completed
@@ -26,7 +22,3 @@ pub record AreOrdered (jobs : List Job) : Type 0 where
   pub rising : AllPairs (λ a b. a.number < b.number) jobs
   pub ids : All (λ job. number_in job.id ≡ job.number) jobs
   pub earlier : All (λ job. is_unended job ≡ true → All (λ id. number_in id < job.number) job.request.dependencies) jobs
-
--- the job of this number, where it is this one, ends
-abbrev pub ended_where : ℕ → ℕ → JobStatus → Option Log → Job → Job
-ended_where moment number status log job = if job.number == number then ended_job moment status log job else job

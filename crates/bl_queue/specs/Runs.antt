@@ -1,5 +1,5 @@
 -- What becomes of a job when it is started, goes on, has a file ended, and is cancelled.
-use Rattle.std.specs.Prelude.{◌≡◌, ℕ, suc, zero, ◌+◌, ◌==◌, Bool, true, false, not, ◌&&◌, ◌||◌, if◌then◌else◌, List, [], ◌∷◌, length, map, count_by, slice_get, IfSome, None, Some}
+use Rattle.std.specs.Prelude.{◌≡◌, ℕ, suc, zero, ◌+◌, ◌==◌, Bool, true, false, not, ◌&&◌, ◌||◌, if◌then◌else◌, List, [], ◌∷◌, length, map, count_by, slice_get, IsSomeAnd, None, Some}
 use Rattle.std.specs.declared.option.Option.{Option}
 use Rattle.std.specs.List.{list_all}
 use Rattle.bl_outside.specs.declared.digest.Digest.{Digest}
@@ -26,9 +26,12 @@ use Rattle.bl_queue.specs.Doomed.{IsSettled}
 abbrev pub IsChanged : ℕ → ℕ → (Job → Job) → Kept → Kept → Type 0
 IsChanged moment number change old new = (jobs : List Job) × IsSettled moment (with_job number change old.jobs) jobs × (new ≡ record old { jobs = jobs })
 
--- each file that hasn't ended ends with this status
+-- a file that hasn't ended ends with this status
+abbrev pub open_ended : FeedStatus → Feed → Feed
+open_ended status feed = if is_open feed.status then record feed { status = status } else feed
+
 abbrev pub with_open_ended : FeedStatus → List Feed → List Feed
-with_open_ended status feeds = map (λ feed. if is_open feed.status then record feed { status = status } else feed) feeds
+with_open_ended status feeds = map (open_ended status) feeds
 
 -- ---- the job is cancelled
 
@@ -36,6 +39,10 @@ abbrev pub cancelled_job : ℕ → Job → Job
 cancelled_job moment job = record job { status = CancelledByUser; latest = moment; feeds = with_open_ended feed.CancelledByUser job.feeds }
 
 -- ---- a file ends
+
+-- the job has a file at this place, and it hasn't ended
+abbrev pub IsOpenAt : ℕ → Job → Type 0
+IsOpenAt place job = IsSomeAnd (slice_get job.feeds place) (λ feed. is_open feed.status ≡ true)
 
 abbrev pub end_status : FeedEnd → FeedStatus
 end_status end.Completed = feed.Completed
@@ -70,10 +77,12 @@ with_feed (suc place) change [] = []
 with_feed zero change (feed ∷ feeds) = change feed ∷ feeds
 with_feed (suc place) change (feed ∷ feeds) = feed ∷ with_feed place change feeds
 
--- and where its end stops the job, each other one that hasn't ended ends
+-- where the end of a file stops the job, each other one that hasn't ended ends
+abbrev pub stopped : Bool → FeedEnd → List Feed → List Feed
+stopped fail_on_error how feeds = if stops fail_on_error how then with_open_ended feed.CancelledDueToErrors feeds else feeds
+
 abbrev pub feeds_after : Bool → ℕ → FeedEnd → List Feed → List Feed
-feeds_after fail_on_error place how feeds =
-    if stops fail_on_error how then with_open_ended feed.CancelledDueToErrors (with_feed place (ended_feed how) feeds) else with_feed place (ended_feed how) feeds
+feeds_after fail_on_error place how feeds = stopped fail_on_error how (with_feed place (ended_feed how) feeds)
 
 -- a job all of whose files are completed is completed, and else it failed
 abbrev pub whole_status : List Feed → JobStatus

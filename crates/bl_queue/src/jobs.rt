@@ -1,17 +1,19 @@
 // The list of jobs.
 ghost use Rattle.std.specs.Prelude.{◌≡◌, ◌+◌, true, false, [], IsSomeAnd, IfOk, OnOk, OnErr, None};
 ghost use Rattle.std.specs.Result.{result_err};
-ghost use Rattle.bl_queue.specs.Jobs.{AreJobs, has_open, is_unended, job_of, number_in};
+ghost use Rattle.bl_queue.specs.Jobs.{AreJobs, front_job, has_open, is_unended, job_of, number_in};
 ghost use Rattle.bl_queue.specs.Checks.{refusal};
 ghost use Rattle.bl_queue.specs.Previous.{front, previous};
 ghost use Rattle.bl_queue.specs.Statuses.{has_ended};
+ghost use Rattle.bl_queue.specs.Runs.{IsChanged, IsOpenAt, cancelled_job, job_after_feed};
 ghost use Rattle.bl_queue.specs.Changes.{IsEnded, IsSubmitted, new_job};
 
 use crate::checking::{busy, full, too_many, unknown, used_up};
+use crate::running::{with_cancelled, with_ended, with_feed_ended};
 use crate::searching::{front_of, job_of, previous_of};
-use crate::settling::{with_ended, with_settled};
+use crate::settling::with_settled;
 use crate::{CheckRefusal, Job, JobStatus};
-use bl_files::{LoadRequest, Log};
+use bl_files::{FeedEnd, LoadRequest, Log};
 use bl_outside::{List, NoMemory};
 use std::alloc::Global;
 use std::marker::Model;
@@ -146,6 +148,27 @@ impl Jobs {
     {
         let jobs = mem::replace(&mut self.jobs, List::new(self.alloc));
         self.jobs = with_ended(jobs, moment, job, status, log);
+    }
+
+    /// Cancels a job, and ends each of its files that hasn't ended. What can't come to its turn any
+    /// more ends with it. It takes no memory.
+    pub fn cancel(&mut self, moment: u64, job: u32)
+        requires { IsSomeAnd (job_of job self.old.jobs) (λ it. is_unended it ≡ true) }
+        ensures { IsChanged moment job (cancelled_job moment) self.old self.new }
+    {
+        let jobs = mem::replace(&mut self.jobs, List::new(self.alloc));
+        self.jobs = with_cancelled(self.alloc, jobs, moment, job);
+    }
+
+    /// Ends a file of the job at the front, and where that stops the job all its others. The job
+    /// ends where each of its files has, and then what can't come to its turn any more ends with it.
+    /// It takes no memory.
+    pub fn end_feed(&mut self, moment: u64, job: u32, feed: u32, end: FeedEnd)
+        requires { IsSomeAnd (front_job self.old.jobs) (λ it. (it.number ≡ job) × IsOpenAt feed it) }
+        ensures { IsChanged moment job (job_after_feed moment feed end) self.old self.new }
+    {
+        let jobs = mem::replace(&mut self.jobs, List::new(self.alloc));
+        self.jobs = with_feed_ended(self.alloc, jobs, moment, job, feed as usize, end);
     }
 }
 

@@ -13,9 +13,11 @@
 
 mod check_refusal;
 mod checking;
+mod ending_feeds;
 mod job;
 mod job_status;
 mod jobs;
+mod running;
 mod searching;
 mod settling;
 

@@ -1,16 +1,15 @@
 // The list after a job has ended or was taken on.
 ghost use Rattle.std.specs.Prelude.{◌≡◌, ◌<◌, length, position, slice_index_or, slice_set, take};
 ghost use Rattle.std.specs.List.{AllZip, list_any};
-ghost use Rattle.bl_queue.specs.Changes.{IsTrimmed, ended_job, trimmed, with_job};
+ghost use Rattle.bl_queue.specs.Changes.{IsTrimmed, trimmed};
 ghost use Rattle.bl_queue.specs.Doomed.{IsFate, IsSettled, called_up, unsatisfied, with_front};
-ghost use Rattle.bl_queue.specs.Pass.{AreOrdered, after_pass, ended_where, failed_id, is_blocked};
+ghost use Rattle.bl_queue.specs.Pass.{AreOrdered, after_pass, failed_id, is_blocked};
 ghost use Rattle.bl_queue.specs.declared.job.Job.{Job as JobValue};
 ghost use Rattle.bl_queue.specs.Jobs.{is_unended};
 ghost use Rattle.bl_queue.specs.Statuses.{has_ended};
 
 use crate::jobs::MOST_KEPT;
 use crate::{Job, JobStatus};
-use bl_files::Log;
 use bl_outside::List;
 
 fn failed_id(jobs: &[Job], id: u128) -> bool
@@ -92,32 +91,13 @@ fn call_up_front(jobs: &mut [Job])
     }
 }
 
-// Ends the jobs that are doomed, and calls up the first that is left.
-fn settle(jobs: &mut [Job], moment: u64)
+/// Ends the jobs that are doomed, and calls up the first that is left.
+pub(crate) fn settle(jobs: &mut [Job], moment: u64)
     requires { AreOrdered jobs.old }
     ensures { IsSettled moment jobs.old jobs.new }
 {
     end_doomed(jobs, moment);
     call_up_front(jobs);
-}
-
-fn end_where(job: &mut Job, moment: u64, number: u32, status: JobStatus, log: Option<Log>)
-    ensures { job.new ≡ ended_where moment number status log job.old }
-{
-    if job.number == number {
-        job.status = status;
-        job.latest = moment;
-        job.end_log = log;
-    }
-}
-
-// Ends the job of this number.
-fn end_job(jobs: &mut [Job], moment: u64, number: u32, status: JobStatus, log: Option<Log>)
-    ensures { jobs.new ≡ with_job number (ended_job moment status log) jobs.old }
-{
-    for job in jobs.iter_mut() {
-        end_where(job, moment, number, status, log);
-    }
 }
 
 fn oldest_ended(jobs: &[Job]) -> Option<usize>
@@ -135,23 +115,6 @@ fn drop_oldest(jobs: &mut Vec<Job>)
             jobs.remove(place);
         }
     }
-}
-
-/// The list with the job of this number ended, and the others settled.
-pub(crate) fn with_ended(
-    jobs: List<Job>,
-    moment: u64,
-    number: u32,
-    status: JobStatus,
-    log: Option<Log>,
-) -> List<Job>
-    requires { AreOrdered (with_job number (ended_job moment status log) jobs) }
-    ensures { IsSettled moment (with_job number (ended_job moment status log) jobs) result }
-{
-    let mut jobs = jobs.into_vec();
-    end_job(&mut jobs, moment, number, status, log);
-    settle(&mut jobs, moment);
-    List::from_vec(jobs)
 }
 
 /// The list with all jobs settled, and trimmed.

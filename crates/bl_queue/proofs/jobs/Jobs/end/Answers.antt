@@ -8,8 +8,8 @@ use Rattle.bl_queue.proofs.FatedJobs.{ordered}
 use Rattle.bl_queue.proofs.ChangedJobs.{changed_jobs, changed_steady, end_change, found_in, some_and}
 use Rattle.bl_queue.proofs.jobs.Jobs.end.Goals as goal
 
-pub with_ended-requires : goal.with_ended-requires
-with_ended-requires c =
+pub with_ended-requires-clause-ordered : goal.with_ended-requires-clause-ordered
+with_ended-requires-clause-ordered c =
     let kept : Kept = record { last = c.self.inside.last; jobs = c.self.inside.jobs } in
     let one = some_and (job_of c.args.job kept.jobs) (λ it. (is_unended it ≡ true) × (has_open it ≡ false)) (subst (λ (k : Kept). IsSomeAnd (job_of c.args.job k.jobs) (λ it. (is_unended it ≡ true) × (has_open it ≡ false))) (sym c.self.view_is) c.requires.unended) in
     let change = end_change c.args.moment c.args.status c.args.log kept c.self.invariant one.0 (found_in c.args.job kept.jobs one.0 one.1).0 one.2.1 c.requires.ended in
