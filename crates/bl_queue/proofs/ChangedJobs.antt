@@ -1,5 +1,5 @@
 -- The list in which one job is changed, before the others settle.
-use Rattle.std.specs.Prelude.{◌≡◌, ◌+◌, ◌<◌, ◌≤◌, ℕ, ◌==◌, Bool, true, false, not, cond, List, [], ◌∷◌, length, map, find, refl, All, AllPairs, Contains, IsSomeAnd, Some, None}
+use Rattle.std.specs.Prelude.{◌≡◌, ◌<◌, ◌≤◌, ℕ, ◌==◌, Bool, true, false, not, cond, List, [], ◌∷◌, length, map, refl, All, AllPairs, Contains, IsSomeAnd, Some, None}
 use Rattle.std.specs.declared.option.Option.{Option}
 use Rattle.std.proofs.Common.{sym, ap, subst, ◌∙◌, arith, get_or, suc, zero}
 use Rattle.std.specs.List.{AllZip}
@@ -173,7 +173,7 @@ module _ (moment number : ℕ) (change : Job → Job) (kept : Kept) (are : AreJo
 
   zip_waited : AllZip (λ x y. waits y ≡ true → waits x ≡ true) kept.jobs (map changed kept.jobs)
   zip_waited = all_zip (λ x y. waits y ≡ true → waits x ≡ true) kept.jobs (map changed kept.jobs) (sym (length-map kept.jobs changed))
-    (λ k d below. subst (λ y. waits y ≡ true → waits (get_or kept.jobs k d) ≡ true) (sym (get_or-map changed kept.jobs k d d below)) (waited k d below))
+      (λ k d below. subst (λ y. waits y ≡ true → waits (get_or kept.jobs k d) ≡ true) (sym (get_or-map changed kept.jobs k d d below)) (waited k d below))
 
   new_earlier : is_unended (change old) ≡ true → All (λ id. number_in id < (change old).number) (change old).request.dependencies
   new_earlier h =
@@ -218,9 +218,9 @@ module _ (moment number : ℕ) (change : Job → Job) (kept : Kept) (are : AreJo
 
   pub changed_calm : All (λ job. is_in_progress job.status ≡ true → IsUnfailed (with_job number change kept.jobs) job) (with_job number change kept.jobs)
   changed_calm = All-map (λ job. is_in_progress job.status ≡ true → IsUnfailed (map changed kept.jobs) job) changed kept.jobs (λ k d below running.
-    All-map (λ other. Contains (changed (get_or kept.jobs k d)).request.dependencies other.id → has_failed other.status ≡ false) changed kept.jobs (λ j e inside named.
-    calm_at k d below running j e inside
-    (subst (λ (r : LoadRequest). Contains r.dependencies (get_or kept.jobs j e).id) (same_request k d below) (subst (λ id. Contains (changed (get_or kept.jobs k d)).request.dependencies id) (same_id j e inside) named))))
+      All-map (λ other. Contains (changed (get_or kept.jobs k d)).request.dependencies other.id → has_failed other.status ≡ false) changed kept.jobs (λ j e inside named.
+      calm_at k d below running j e inside
+      (subst (λ (r : LoadRequest). Contains r.dependencies (get_or kept.jobs j e).id) (same_request k d below) (subst (λ id. Contains (changed (get_or kept.jobs k d)).request.dependencies id) (same_id j e inside) named))))
 
   pub changed_jobs : (jobs : List Job) → IsSettled moment (with_job number change kept.jobs) jobs → AreJobs (record { last = kept.last; jobs = jobs })
   changed_jobs jobs settled =

@@ -1,5 +1,5 @@
 -- What the files of a job keep when some of them end.
-use Rattle.std.specs.Prelude.{◌≡◌, ◌<◌, ℕ, Bool, true, false, cond, List, [], ◌∷◌, length, map, slice_get, refl, All, IsSomeAnd, Some, None}
+use Rattle.std.specs.Prelude.{◌≡◌, ◌<◌, ℕ, Bool, true, false, List, [], ◌∷◌, length, slice_get, refl, All, IsSomeAnd}
 use Rattle.std.specs.declared.option.Option.{Option}
 use Rattle.std.proofs.Common.{sym, ap, subst, ◌∙◌, arith, inl, inr, get_or, suc, zero, ◌⊎◌}
 use Rattle.std.specs.List.{AllZip, list_any}
@@ -16,7 +16,7 @@ use Rattle.bl_files.specs.declared.log.Log.{Log}
 use Rattle.bl_files.specs.Carried.{AreFeeds, DifferentNames, EndsRefused, feed_names}
 use Rattle.bl_queue.specs.Statuses.{is_open}
 use Rattle.bl_queue.specs.Jobs.{HasCounts}
-use Rattle.bl_queue.specs.Runs.{end_log, end_status, ended_feed, feeds_after, open_ended, stopped, stops, with_feed, with_open_ended}
+use Rattle.bl_queue.specs.Runs.{end_log, end_status, ended_feed, feeds_after, open_ended, stops, with_feed, with_open_ended}
 
 -- a file stays as it was, or it was open and has another status and end log
 abbrev pub Goes : Feed → Feed → Type 0

@@ -9,3 +9,4 @@ pub mod SubmittedJobs
 mod Placed
 mod EndedFeeds
 pub mod RunChanges
+pub mod Starts

@@ -1,6 +1,6 @@
 -- One item of a list is changed, found by its place.
-use Rattle.std.specs.Prelude.{◌≡◌, ◌<◌, ℕ, ◌==◌, Bool, true, false, cond, List, [], ◌∷◌, length, map, position, refl, All, AllPairs, Some, None}
-use Rattle.std.proofs.Common.{sym, ap, ◌∙◌, arith, get_or, set, suc, zero}
+use Rattle.std.specs.Prelude.{◌≡◌, ◌<◌, ℕ, ◌==◌, false, cond, List, [], ◌∷◌, length, map, position, refl, All, AllPairs, Some, None}
+use Rattle.std.proofs.Common.{ap, ◌∙◌, arith, get_or, set, suc, zero}
 use Rattle.std.proofs.lemmas.Bool.{eqb-true, eq-eqb, ne_eqb}
 use Rattle.std.proofs.lemmas.List.Folds.{map_fixed}
 use Rattle.std.proofs.lemmas.List.Quantifiers.{position-Some}

@@ -1,6 +1,6 @@
 -- What calls make of a job.
-use Rattle.std.specs.Prelude.{◌≡◌, ◌<◌, ◌≤◌, ℕ, Bool, true, false, not, cond, List, refl, All, AllPairs, Contains, IsSomeAnd, Some}
-use Rattle.std.proofs.Common.{sym, ap, subst, ◌∙◌, arith}
+use Rattle.std.specs.Prelude.{◌≡◌, ◌≤◌, ℕ, true, false, not, List, refl, All, Contains, Some}
+use Rattle.std.proofs.Common.{sym, ◌∙◌}
 use Rattle.std.proofs.lemmas.Bool.{true≢false, cond_both}
 use Rattle.std.specs.List.{list_all}
 use Rattle.std.proofs.lemmas.List.Elements.{All-contains}
@@ -12,7 +12,7 @@ use Rattle.bl_queue.specs.declared.job.Job.{Job}
 use Rattle.bl_queue.specs.declared.job_status.JobStatus.{JobStatus}
 use Rattle.bl_queue.specs.declared.job_status.JobStatus.TheVariants.{NotStarted, InQueue, InProgress, Completed, CancelledByUser, Failed, DependencyNotSatisfied}
 use Rattle.bl_queue.specs.Statuses.{has_ended, is_in_progress, is_to_start}
-use Rattle.bl_queue.specs.Jobs.{AreJobs, HasCounts, IsNumbered, Kept, front_job, has_open, is_unended}
+use Rattle.bl_queue.specs.Jobs.{AreJobs, HasCounts, IsNumbered, Kept, front_job, has_open}
 use Rattle.bl_queue.specs.Runs.{IsOpenAt, cancelled_job, closed, feeds_after, job_after_feed, whole_status, with_open_ended}
 use Rattle.bl_queue.proofs.ChangedJobs.{IsChange, front_first, front_in}
 use Rattle.bl_queue.proofs.EndedFeeds.{feeds_after_counts, feeds_after_feeds, none_open, open_goes, some_open, still_counts, still_feeds}

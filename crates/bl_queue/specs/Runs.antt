@@ -1,24 +1,27 @@
 -- What becomes of a job when it is started, goes on, has a file ended, and is cancelled.
-use Rattle.std.specs.Prelude.{◌≡◌, ℕ, suc, zero, ◌+◌, ◌==◌, Bool, true, false, not, ◌&&◌, ◌||◌, if◌then◌else◌, List, [], ◌∷◌, length, map, count_by, slice_get, IsSomeAnd, None, Some}
+use Rattle.std.specs.Prelude.{◌≡◌, ℕ, suc, zero, ◌+◌, Bool, true, false, if◌then◌else◌, List, [], ◌∷◌, map, slice_get, option_and_then, IsSomeAnd, None, Some}
 use Rattle.std.specs.declared.option.Option.{Option}
 use Rattle.std.specs.List.{list_all}
-use Rattle.bl_outside.specs.declared.digest.Digest.{Digest}
 use Rattle.bl_value.specs.declared.log_code.LogCode.{LogCode}
 use Rattle.bl_value.specs.declared.log_code.LogCode.TheVariants.{FeedModified, ListFault, NoPreviousLoad, ReadFault, SourceNotFound, TooManyFiles}
-use Rattle.bl_files.specs.declared.counts.Counts.{Counts}
-use Rattle.bl_files.specs.declared.error_class.ErrorClass.{ErrorClass}
 use Rattle.bl_files.specs.declared.feed.Feed.{Feed}
 use Rattle.bl_files.specs.declared.feed_end.FeedEnd.{FeedEnd}
 use Rattle.bl_files.specs.declared.feed_end.FeedEnd.TheVariants as end
 use Rattle.bl_files.specs.declared.feed_status.FeedStatus.{FeedStatus}
 use Rattle.bl_files.specs.declared.feed_status.FeedStatus.TheVariants as feed
 use Rattle.bl_files.specs.declared.log.Log.{Log}
-use Rattle.bl_files.specs.Carried.{is_completed}
+use Rattle.bl_files.specs.declared.found.Found.{Found}
+use Rattle.bl_files.specs.declared.mode.Mode.{Mode}
+use Rattle.bl_files.specs.declared.mode.Mode.TheVariants.{New, Resume, Auto}
+use Rattle.bl_files.specs.declared.plan_result.PlanResult.{PlanResult}
+use Rattle.bl_files.specs.declared.plan_result.PlanResult.TheVariants as plan
+use Rattle.bl_files.specs.Carried.{AreCarried, DifferentNames, found_names, is_completed}
 use Rattle.bl_queue.specs.declared.job.Job.{Job}
 use Rattle.bl_queue.specs.declared.job_status.JobStatus.{JobStatus}
-use Rattle.bl_queue.specs.declared.job_status.JobStatus.TheVariants.{CancelledByUser, Completed, Failed}
+use Rattle.bl_queue.specs.declared.job_status.JobStatus.TheVariants.{CancelledByUser, Completed, Failed, InProgress}
 use Rattle.bl_queue.specs.Statuses.{is_open}
-use Rattle.bl_queue.specs.Jobs.{Kept, has_open}
+use Rattle.bl_queue.specs.Jobs.{Kept, has_open, job_of}
+use Rattle.bl_queue.specs.Previous.{previous_job}
 use Rattle.bl_queue.specs.Changes.{with_job}
 use Rattle.bl_queue.specs.Doomed.{IsSettled}
 
@@ -94,3 +97,64 @@ closed job = if has_open job then job else record job { status = whole_status jo
 
 abbrev pub job_after_feed : ℕ → ℕ → FeedEnd → Job → Job
 job_after_feed moment place how job = closed (record job { latest = moment; feeds = feeds_after job.request.fail_on_error place how job.feeds })
+
+-- ---- a job is started
+
+-- the load that it goes on with: the previous one, but where it is to begin anew
+abbrev pub by_mode : Mode → Option Job → Option Job
+by_mode New previous = None
+by_mode Resume previous = previous
+by_mode Auto previous = previous
+
+abbrev pub goes_on_from : List Job → ℕ → Option Job
+goes_on_from jobs number = option_and_then (λ job. by_mode job.request.mode (previous_job jobs job)) (job_of number jobs)
+
+-- the run of a load, and the number of the one before it
+abbrev pub run_after : Option Job → ℕ
+run_after None = 1
+run_after (Some older) = older.run + 1
+
+abbrev pub number_of : Option Job → ℕ
+number_of None = 0
+number_of (Some older) = older.number
+
+abbrev pub feeds_of : Option Job → List Feed
+feeds_of None = []
+feeds_of (Some older) = older.feeds
+
+abbrev pub started_job : ℕ → ℕ → ℕ → Job → Job
+started_job moment run previous job = record job { started = moment; latest = moment; run = run; previous = previous }
+
+-- it goes on with these files, and has ended where each of them has
+abbrev pub running_job : ℕ → ℕ → ℕ → List Feed → Job → Job
+running_job moment run previous feeds job = closed (record (started_job moment run previous job) { status = InProgress; feeds = feeds })
+
+-- or it fails for this reason
+abbrev pub refused_job : ℕ → ℕ → ℕ → LogCode → Job → Job
+refused_job moment run previous code job = record (started_job moment run previous job) { status = Failed; end_log = Some (bare_log code) }
+
+abbrev pub IsRefused : ℕ → ℕ → LogCode → Kept → Kept → Type 0
+IsRefused moment number code old new =
+    IsChanged moment number (refused_job moment (run_after (goes_on_from old.jobs number)) (number_of (goes_on_from old.jobs number)) code) old new
+
+-- the files that were found, and those that go on from the load before
+abbrev pub IsRunning : ℕ → ℕ → List Found → Kept → Kept → Type 0
+IsRunning moment number found old new =
+    (feeds : List Feed)
+    × AreCarried (feeds_of (goes_on_from old.jobs number)) found feeds
+    × IsChanged moment number (running_job moment (run_after (goes_on_from old.jobs number)) (number_of (goes_on_from old.jobs number)) feeds) old new
+
+abbrev pub IsStarted : ℕ → ℕ → PlanResult → Kept → Kept → Type 0
+IsStarted moment number (plan.Feeds found) old new = IsRunning moment number found old new
+IsStarted moment number plan.NoPrevious old new = IsRefused moment number NoPreviousLoad old new
+IsStarted moment number plan.SourceNotFound old new = IsRefused moment number SourceNotFound old new
+IsStarted moment number plan.ListFault old new = IsRefused moment number ListFault old new
+IsStarted moment number (plan.TooManyFiles n) old new = IsRefused moment number TooManyFiles old new
+
+-- no name was found twice
+abbrev pub HasNames : PlanResult → Type 0
+HasNames (plan.Feeds found) = DifferentNames (found_names found)
+HasNames plan.NoPrevious = Unit {0}
+HasNames plan.SourceNotFound = Unit {0}
+HasNames plan.ListFault = Unit {0}
+HasNames (plan.TooManyFiles n) = Unit {0}

@@ -1,20 +1,24 @@
 // The list of jobs.
-ghost use Rattle.std.specs.Prelude.{◌≡◌, ◌+◌, true, false, [], IsSomeAnd, IfOk, OnOk, OnErr, None};
+ghost use Rattle.std.specs.Prelude.{◌≡◌, ◌+◌, true, false, [], IsSomeAnd, IfOk, IsOk, OnOk, OnErr, None};
 ghost use Rattle.std.specs.Result.{result_err};
 ghost use Rattle.bl_queue.specs.Jobs.{AreJobs, front_job, has_open, is_unended, job_of, number_in};
 ghost use Rattle.bl_queue.specs.Checks.{refusal};
 ghost use Rattle.bl_queue.specs.Previous.{front, previous};
 ghost use Rattle.bl_queue.specs.Statuses.{has_ended};
-ghost use Rattle.bl_queue.specs.Runs.{IsChanged, IsOpenAt, cancelled_job, job_after_feed};
+ghost use Rattle.bl_files.specs.Carried.{DifferentNames, found_names};
+ghost use Rattle.bl_queue.specs.declared.job_status.JobStatus.TheVariants.{NotStarted};
+ghost use Rattle.bl_queue.specs.Runs.{HasNames, IsChanged, IsOpenAt, IsRefused, IsRunning, IsStarted, cancelled_job, job_after_feed};
 ghost use Rattle.bl_queue.specs.Changes.{IsEnded, IsSubmitted, new_job};
 
 use crate::checking::{busy, full, too_many, unknown, used_up};
 use crate::running::{with_cancelled, with_ended, with_feed_ended};
 use crate::searching::{front_of, job_of, previous_of};
 use crate::settling::with_settled;
+use crate::starting::{carried, goes_on_from, number_of, run_after, with_refused, with_running};
 use crate::{CheckRefusal, Job, JobStatus};
-use bl_files::{FeedEnd, LoadRequest, Log};
+use bl_files::{FeedEnd, Found, LoadRequest, Log, PlanResult};
 use bl_outside::{List, NoMemory};
+use bl_value::LogCode;
 use std::alloc::Global;
 use std::marker::Model;
 use std::mem;
@@ -169,6 +173,53 @@ impl Jobs {
     {
         let jobs = mem::replace(&mut self.jobs, List::new(self.alloc));
         self.jobs = with_feed_ended(self.alloc, jobs, moment, job, feed as usize, end);
+    }
+
+    /// Starts the job at the front as it was planned: it goes on with the files that were found and
+    /// with those of the load before it, and ends at once where each of them has ended, or it fails.
+    /// No name was found twice, and files that would be too many are no plan of files.
+    pub fn start(&mut self, moment: u64, job: u32, plan: &PlanResult) -> Result<(), NoMemory>
+        requires front { IsSomeAnd (front_job self.old.jobs) (λ it. (it.number ≡ job) × (it.status ≡ NotStarted)) }
+        requires names { HasNames plan.now }
+        ensures ok { OnOk result (IsStarted moment job plan.now self.old self.new) }
+        ensures err { OnErr result (self.new ≡ self.old) }
+    {
+        match plan {
+            PlanResult::Feeds(found) => self.run(moment, job, found),
+            PlanResult::NoPrevious => self.refuse(moment, job, LogCode::NoPreviousLoad),
+            PlanResult::SourceNotFound => self.refuse(moment, job, LogCode::SourceNotFound),
+            PlanResult::ListFault => self.refuse(moment, job, LogCode::ListFault),
+            PlanResult::TooManyFiles(_) => self.refuse(moment, job, LogCode::TooManyFiles),
+        }
+    }
+
+    fn run(&mut self, moment: u64, job: u32, found: &List<Found>) -> Result<(), NoMemory>
+        requires front { IsSomeAnd (front_job self.old.jobs) (λ it. (it.number ≡ job) × (it.status ≡ NotStarted)) }
+        requires names { DifferentNames (found_names found.now) }
+        ensures ok { OnOk result (IsRunning moment job found.now self.old self.new) }
+        ensures err { OnErr result (self.new ≡ self.old) }
+    {
+        let older = goes_on_from(self.jobs.as_slice(), job);
+        let run = run_after(older);
+        let previous = number_of(older);
+        let feeds = carried(self.alloc, older, found)?;
+        let jobs = mem::replace(&mut self.jobs, List::new(self.alloc));
+        self.jobs = with_running(jobs, moment, job, run, previous, feeds);
+        Ok(())
+    }
+
+    // It is always Ok.
+    fn refuse(&mut self, moment: u64, job: u32, code: LogCode) -> Result<(), NoMemory>
+        requires { IsSomeAnd (front_job self.old.jobs) (λ it. (it.number ≡ job) × (it.status ≡ NotStarted)) }
+        ensures ok { IsRefused moment job code self.old self.new }
+        ensures always { IsOk result }
+    {
+        let older = goes_on_from(self.jobs.as_slice(), job);
+        let run = run_after(older);
+        let previous = number_of(older);
+        let jobs = mem::replace(&mut self.jobs, List::new(self.alloc));
+        self.jobs = with_refused(jobs, moment, job, run, previous, code);
+        Ok(())
     }
 }
 

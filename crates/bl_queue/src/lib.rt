@@ -20,6 +20,7 @@ mod jobs;
 mod running;
 mod searching;
 mod settling;
+mod starting;
 
 pub use check_refusal::CheckRefusal;
 pub use checking::{MOST_DEPENDENCIES, MOST_QUEUED};

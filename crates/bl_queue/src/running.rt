@@ -17,7 +17,8 @@ use bl_outside::List;
 use std::alloc::Global;
 use std::mem;
 
-fn place_of(jobs: &[Job], number: u32) -> Option<usize>
+/// The place of the job of this number.
+pub(crate) fn place_of(jobs: &[Job], number: u32) -> Option<usize>
     ensures { result ≡ position (λ job. job.number == number) jobs.now }
 {
     jobs.iter().position(|job| job.number == number)
@@ -81,12 +82,7 @@ fn cancel_one(alloc: Global, jobs: &mut [Job], moment: u64, number: u32)
 }
 
 /// The job of this number is cancelled, and the others settle.
-pub(crate) fn with_cancelled(
-    alloc: Global,
-    jobs: List<Job>,
-    moment: u64,
-    number: u32,
-) -> List<Job>
+pub(crate) fn with_cancelled(alloc: Global, jobs: List<Job>, moment: u64, number: u32) -> List<Job>
     requires rising { AllPairs (λ a b. a.number < b.number) jobs }
     requires ordered { AreOrdered (with_job number (cancelled_job moment) jobs) }
     ensures { IsSettled moment (with_job number (cancelled_job moment) jobs) result }
@@ -123,8 +119,8 @@ fn whole_status(feeds: &[Feed]) -> JobStatus
     }
 }
 
-// The job ends where each of its files has.
-fn close(job: &mut Job)
+/// The job ends where each of its files has.
+pub(crate) fn close(job: &mut Job)
     ensures { job.new ≡ closed job.old }
 {
     if !has_open(job.feeds.as_slice()) {

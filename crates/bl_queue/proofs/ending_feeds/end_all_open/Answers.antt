@@ -1,4 +1,4 @@
-use Rattle.std.proofs.Common.{◌≡◌, ◌<◌, arith, ap, ◌∙◌, set, get_or, length}
+use Rattle.std.proofs.Common.{◌<◌, arith, ap, ◌∙◌, set, get_or, length}
 use Rattle.std.proofs.lemmas.List.{get_or_default}
 use Rattle.std.proofs.lemmas.List.Edits.{map_over_more}
 use Rattle.bl_queue.specs.Runs.{open_ended}

@@ -1,4 +1,4 @@
-use Rattle.std.proofs.Common.{arith, ap, sym, ◌∙◌, set}
+use Rattle.std.proofs.Common.{ap, sym, ◌∙◌, set}
 use Rattle.bl_queue.specs.Runs.{ended_feed}
 use Rattle.bl_queue.proofs.Placed.{feed_at}
 use Rattle.bl_queue.proofs.ending_feeds.end_at.Goals as goal

@@ -1,5 +1,4 @@
 use Rattle.std.proofs.Common.{◌≡◌, true, IsSomeAnd, sym, subst}
-use Rattle.bl_queue.specs.declared.job.Job.{Job}
 use Rattle.bl_queue.specs.Jobs.{Kept, is_unended, job_of}
 use Rattle.bl_queue.specs.Changes.{with_job}
 use Rattle.bl_queue.specs.Doomed.{IsSettled}

@@ -1,6 +1,5 @@
 use Rattle.std.proofs.Common.{◌≡◌, true, false, IsSomeAnd, sym, subst}
-use Rattle.bl_queue.specs.declared.job.Job.{Job}
-use Rattle.bl_queue.specs.Jobs.{AreJobs, Kept, has_open, is_unended, job_of}
+use Rattle.bl_queue.specs.Jobs.{Kept, has_open, is_unended, job_of}
 use Rattle.bl_queue.specs.Changes.{ended_job, with_job}
 use Rattle.bl_queue.specs.Doomed.{IsSettled}
 use Rattle.bl_queue.specs.Pass.{AreOrdered}
