@@ -1,18 +1,31 @@
 // Loads taken on, refused and ended.
-ghost use Rattle.std.specs.Prelude.{◌≡◌, ◌≤◌, true, false, IsSomeAnd, IsTrue};
-ghost use Rattle.bl_queue.specs.Jobs.{has_open, is_unended, job_of};
+ghost use Rattle.std.specs.Prelude.{◌≡◌, ◌≤◌, true, false, IfOk, IsSomeAnd, IsTrue, slice_get};
+ghost use Rattle.bl_queue.specs.Jobs.{front_job, has_open, is_unended, job_of};
+ghost use Rattle.bl_queue.specs.declared.job_status.JobStatus.TheVariants.{NotStarted};
+ghost use Rattle.bl_queue.specs.Runs.{HasNames, IsOpenAt};
+ghost use Rattle.bl_queue.specs.Statuses.{is_open};
 
-use crate::searching::job_of;
-use crate::{CheckRefusal, Job, JobStatus, Jobs, MOST_KEPT};
-use bl_files::{LoadRequest, Log, Mode};
-use bl_outside::{List, NoMemory, Text};
+use crate::ending_feeds::is_open;
+use crate::searching::{front_of, job_of};
+use crate::{CheckRefusal, JobStatus, Jobs, MOST_KEPT};
+use bl_files::{Feed, FeedEnd, FeedKind, FeedStatus, Found, LoadRequest, Log, Mode, PlanResult};
+use bl_outside::{Digest, List, NoMemory, Text};
 use bl_value::LogCode;
 use std::alloc::Global;
 
 // A load of a source that depends on the loads of these ids.
 fn request(alloc: Global, queue: bool, ids: &[u128]) -> Result<LoadRequest, NoMemory> {
+    request_of(alloc, b"s3://bucket/key", queue, ids)
+}
+
+fn request_of(
+    alloc: Global,
+    source: &[u8],
+    queue: bool,
+    ids: &[u128],
+) -> Result<LoadRequest, NoMemory> {
     Ok(LoadRequest {
-        source: Text::copy_of(alloc, b"s3://bucket/key")?,
+        source: Text::copy_of(alloc, source)?,
         format: 0,
         mode: Mode::Auto,
         fail_on_error: true,
@@ -158,4 +171,171 @@ fn the_newest_1024_are_kept(rt: HostRuntime) {
     assert!(rt; jobs.kept().len() == MOST_KEPT && jobs.front() == Some(1));
     assert!(rt; status_of(&jobs, 1) == Some(JobStatus::NotStarted));
     assert!(rt; status_of(&jobs, 2) == None && status_of(&jobs, 3).is_some());
+}
+
+fn may_start(jobs: &Jobs, number: u32) -> bool
+    ensures { IsTrue result → IsSomeAnd (front_job jobs.now.jobs) (λ it. (it.number ≡ number) × (it.status ≡ NotStarted)) }
+{
+    match front_of(jobs.kept().as_slice()) {
+        Some(job) => job.number == number && matches!(job.status, JobStatus::NotStarted),
+        None => false,
+    }
+}
+
+fn is_open_at(feeds: &[Feed], place: u32) -> bool
+    ensures { IsTrue result → IsSomeAnd (slice_get feeds.now place) (λ feed. is_open feed.status ≡ true) }
+{
+    match feeds.get(place as usize) {
+        Some(feed) => is_open(feed.status),
+        None => false,
+    }
+}
+
+fn may_end_feed(jobs: &Jobs, number: u32, place: u32) -> bool
+    ensures { IsTrue result → IsSomeAnd (front_job jobs.now.jobs) (λ it. (it.number ≡ number) × IsOpenAt place it) }
+{
+    match front_of(jobs.kept().as_slice()) {
+        Some(job) => job.number == number && is_open_at(job.feeds.as_slice(), place),
+        None => false,
+    }
+}
+
+fn file(alloc: Global, name: &[u8]) -> Result<Found, NoMemory>
+    ensures { IfOk result (λ file. file.name ≡ name.now) }
+{
+    Ok(Found {
+        name: Text::copy_of(alloc, name)?,
+        kind: FeedKind::Vertex,
+        digest: Digest { bytes: [1; 32] },
+    })
+}
+
+// The files a and b.
+fn two_files(alloc: Global) -> Result<PlanResult, NoMemory>
+    ensures { IfOk result HasNames }
+{
+    let mut found = List::new(alloc);
+    found.push(file(alloc, b"a")?)?;
+    found.push(file(alloc, b"b")?)?;
+    Ok(PlanResult::Feeds(found))
+}
+
+fn no_files(alloc: Global) -> PlanResult
+    ensures { HasNames result }
+{
+    PlanResult::Feeds(List::new(alloc))
+}
+
+// The job is the next to start, and is started.
+fn start(jobs: &mut Jobs, number: u32, plan: &PlanResult) -> bool
+    requires { HasNames plan.now }
+{
+    may_start(jobs, number) && jobs.start(20, number, plan).is_ok()
+}
+
+fn end_feed(jobs: &mut Jobs, number: u32, place: u32, end: FeedEnd) -> bool {
+    if may_end_feed(jobs, number, place) {
+        jobs.end_feed(30, number, place, end);
+        true
+    } else {
+        false
+    }
+}
+
+fn feed_status(jobs: &Jobs, number: u32, place: usize) -> Option<FeedStatus> {
+    match job_of(jobs.kept().as_slice(), number) {
+        Some(job) => job.feeds.get(place).map(|feed| feed.status),
+        None => None,
+    }
+}
+
+#[test]
+fn a_load_goes_on_from_the_newest_of_its_source(rt: HostRuntime) {
+    let mut jobs = Jobs::new(rt.alloc());
+    let sources: [&[u8]; 5] = [
+        b"s3://b/k",
+        b"s3://b/other",
+        b"s3://b/k",
+        b"s3://b/k",
+        b"s3://b/k",
+    ];
+    for source in sources {
+        let request = request_of(rt.alloc(), source, true, &[]).expect(&rt, "memory");
+        assert!(rt; ask(&mut jobs, request).is_ok());
+    }
+    let none = no_files(rt.alloc());
+    assert!(rt; start(&mut jobs, 1, &none) && status_of(&jobs, 1) == Some(JobStatus::Completed));
+    assert!(rt; start(&mut jobs, 2, &none) && jobs.front() == Some(3));
+    assert!(rt; jobs.previous(2) == None && jobs.previous(3) == Some(1));
+    assert!(rt; start(&mut jobs, 3, &PlanResult::ListFault));
+    assert!(rt; status_of(&jobs, 3) == Some(JobStatus::Failed));
+    assert!(rt; jobs.previous(4) == Some(1) && jobs.previous(5) == Some(1));
+    assert!(rt; start(&mut jobs, 4, &none));
+    assert!(rt; jobs.previous(4) == Some(1) && jobs.previous(5) == Some(4));
+    assert!(rt; start(&mut jobs, 5, &none) && jobs.front() == None);
+    let runs = [1, 1, 2, 2, 3];
+    let previous = [0, 0, 1, 1, 4];
+    for (i, job) in jobs.kept().as_slice().iter().enumerate() {
+        assert!(rt; Some(&job.run) == runs.get(i), "{i}");
+        assert!(rt; Some(&job.previous) == previous.get(i), "{i}");
+        assert!(rt; job.started == 20 && job.latest == 20, "{i}");
+        assert!(rt; job.end_log.is_some() == (i == 2), "{i}");
+    }
+}
+
+#[test]
+fn the_end_of_a_file_stops_or_ends_the_job(rt: HostRuntime) {
+    let mut jobs = Jobs::new(rt.alloc());
+    assert!(rt; ask_with(rt.alloc(), &mut jobs, &[]) == Ok(Some(1)));
+    assert!(rt; ask_with(rt.alloc(), &mut jobs, &[1]) == Ok(Some(2)));
+    assert!(rt; ask_with(rt.alloc(), &mut jobs, &[]) == Ok(Some(3)));
+    let plan = two_files(rt.alloc()).expect(&rt, "memory");
+    assert!(rt; start(&mut jobs, 1, &plan));
+    assert!(rt; status_of(&jobs, 1) == Some(JobStatus::InProgress));
+    assert!(rt; end_feed(&mut jobs, 1, 0, FeedEnd::Completed));
+    assert!(rt; status_of(&jobs, 1) == Some(JobStatus::InProgress));
+    assert!(rt; !end_feed(&mut jobs, 1, 0, FeedEnd::Completed));
+    assert!(rt; end_feed(&mut jobs, 1, 1, FeedEnd::Completed));
+    assert!(rt; status_of(&jobs, 1) == Some(JobStatus::Completed));
+    assert!(rt; start(&mut jobs, 2, &plan));
+    assert!(rt; status_of(&jobs, 2) == Some(JobStatus::Completed));
+    assert!(rt; start(&mut jobs, 3, &PlanResult::SourceNotFound) && jobs.front() == None);
+}
+
+#[test]
+fn a_stop_and_a_cancel_end_every_file(rt: HostRuntime) {
+    let mut jobs = Jobs::new(rt.alloc());
+    assert!(rt; ask_with(rt.alloc(), &mut jobs, &[]) == Ok(Some(1)));
+    assert!(rt; ask_with(rt.alloc(), &mut jobs, &[1]) == Ok(Some(2)));
+    assert!(rt; ask_with(rt.alloc(), &mut jobs, &[]) == Ok(Some(3)));
+    let plan = two_files(rt.alloc()).expect(&rt, "memory");
+    assert!(rt; start(&mut jobs, 1, &plan));
+    assert!(rt; end_feed(&mut jobs, 1, 0, FeedEnd::Modified));
+    assert!(rt; status_of(&jobs, 1) == Some(JobStatus::Failed));
+    assert!(rt; feed_status(&jobs, 1, 0) == Some(FeedStatus::Modified));
+    assert!(rt; feed_status(&jobs, 1, 1) == Some(FeedStatus::CancelledDueToErrors));
+    assert!(rt; status_of(&jobs, 2) == Some(JobStatus::DependencyNotSatisfied));
+    assert!(rt; start(&mut jobs, 3, &plan));
+    assert!(rt; cancel(&mut jobs, 3) && !cancel(&mut jobs, 3));
+    assert!(rt; status_of(&jobs, 3) == Some(JobStatus::CancelledByUser));
+    assert!(rt; feed_status(&jobs, 3, 0) == Some(FeedStatus::CancelledByUser));
+    assert!(rt; feed_status(&jobs, 3, 1) == Some(FeedStatus::CancelledByUser));
+}
+
+fn is_kept_unended(jobs: &Jobs, number: u32) -> bool
+    ensures { IsTrue result → IsSomeAnd (job_of number jobs.now.jobs) (λ it. is_unended it ≡ true) }
+{
+    match job_of(jobs.kept().as_slice(), number) {
+        Some(job) => !job.status.has_ended(),
+        None => false,
+    }
+}
+
+fn cancel(jobs: &mut Jobs, number: u32) -> bool {
+    if is_kept_unended(jobs, number) {
+        jobs.cancel(40, number);
+        true
+    } else {
+        false
+    }
 }
