@@ -10,3 +10,4 @@ mod Placed
 mod EndedFeeds
 pub mod RunChanges
 pub mod Starts
+mod TestFiles
