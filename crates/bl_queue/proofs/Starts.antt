@@ -1,8 +1,9 @@
 -- What a start makes of a job.
-use Rattle.std.specs.Prelude.{◌≡◌, ◌-◌, ◌<◌, ◌≤◌, ℕ, nat_lt, Bool, true, false, cond, List, [], ◌∷◌, length, reverse, find, option_and_then, refl, All, Contains, IfSome, Some, None}
+use Rattle.std.specs.Prelude.{◌≡◌, ◌-◌, ◌<◌, ◌≤◌, ℕ, nat_lt, ◌&&◌, Bool, true, false, cond, List, [], ◌∷◌, length, reverse, find, option_and_then, refl, All, Contains, IfSome, Some, None}
 use Rattle.std.specs.declared.option.Option.{Option}
 use Rattle.std.proofs.Common.{sym, ap, subst, ◌∙◌, arith, get_or, inl, inr, lit<, lit≤}
-use Rattle.std.proofs.lemmas.Bool.{true≢false, and_parts, ltb-true}
+use Rattle.std.proofs.lemmas.Bool.{true≢false, and_parts, cond_both, ltb-true}
+use Rattle.std.specs.List.{list_any}
 use Rattle.std.proofs.lemmas.List.{get_or_default, get_or-reverse, length-reverse}
 use Rattle.std.proofs.lemmas.List.Elements.{All-contains, All-head, All-nil, All-tail}
 use Rattle.bl_value.specs.declared.log_code.LogCode.{LogCode}
@@ -13,12 +14,14 @@ use Rattle.bl_files.specs.declared.mode.Mode.TheVariants.{New, Resume, Auto}
 use Rattle.bl_files.specs.Carried.{AreCarried, AreFeeds, IsCarriedFeed}
 use Rattle.bl_queue.specs.declared.job.Job.{Job}
 use Rattle.bl_queue.specs.declared.job_status.JobStatus.TheVariants.{NotStarted, InProgress}
-use Rattle.bl_queue.specs.Statuses.{is_in_progress}
+use Rattle.bl_files.specs.declared.feed_status.FeedStatus.TheVariants.{CancelledDueToErrors}
+use Rattle.bl_queue.specs.Statuses.{is_failed, is_in_progress}
 use Rattle.bl_queue.specs.Jobs.{AreJobs, HasCounts, IsNumbered, Kept, front_job, has_open, job_of}
 use Rattle.bl_queue.specs.Previous.{may_go_before, previous_job}
-use Rattle.bl_queue.specs.Runs.{by_mode, feeds_of, goes_on_from, refused_job, run_after, running_job, started_job}
+use Rattle.bl_queue.specs.Runs.{begun, by_mode, feeds_of, goes_on_from, refused_job, run_after, running_job, started_job, with_open_ended}
 use Rattle.bl_queue.proofs.ChangedJobs.{IsChange, found_in, front_in}
 use Rattle.bl_queue.proofs.SubmittedJobs.{no_feeds}
+use Rattle.bl_queue.proofs.EndedFeeds.{open_goes, still_counts, still_feeds}
 use Rattle.bl_queue.proofs.RunChanges.{close_change}
 
 -- ---- the load that it goes on from
@@ -90,6 +93,21 @@ all_counts previous found feeds all are k d below =
     let feed : Feed = get_or feeds k d in
     carried_counts previous found feed all ((are.each feed).0 (k, below, get_or_default feeds k feed d below))
 
+-- ---- a file that has failed at once
+
+abbrev stops_at_once : Bool → List Feed → Bool
+stops_at_once fail_on_error feeds = fail_on_error && list_any (λ (feed : Feed). is_failed feed.status) feeds
+
+begun_feeds : (fail_on_error : Bool) (feeds : List Feed) → AreFeeds feeds → AreFeeds (begun fail_on_error feeds)
+begun_feeds fail_on_error feeds are =
+    cond_both (stops_at_once fail_on_error feeds) (with_open_ended CancelledDueToErrors feeds) feeds AreFeeds
+    (λ stops. still_feeds feeds (with_open_ended CancelledDueToErrors feeds) (open_goes CancelledDueToErrors feeds) are) (λ goes. are)
+
+begun_counts : (fail_on_error : Bool) (feeds : List Feed) → All HasCounts feeds → All HasCounts (begun fail_on_error feeds)
+begun_counts fail_on_error feeds all =
+    cond_both (stops_at_once fail_on_error feeds) (with_open_ended CancelledDueToErrors feeds) feeds (λ l. All HasCounts l)
+    (λ stops. still_counts feeds (with_open_ended CancelledDueToErrors feeds) (open_goes CancelledDueToErrors feeds) all) (λ goes. all)
+
 -- ---- the changes
 
 module _ (moment : ℕ) (keeps : Kept) (are : AreJobs keeps) (old : Job) (front : front_job keeps.jobs ≡ Some old) where
@@ -103,7 +121,7 @@ module _ (moment : ℕ) (keeps : Kept) (are : AreJobs keeps) (old : Job) (front 
 
   pub run_change : (run previous : ℕ) (feeds : List Feed) → run ≤ old.number → AreFeeds feeds → All HasCounts feeds → IsChange keeps.jobs old (running_job moment run previous feeds old)
   run_change run previous feeds few fit counts =
-      close_change moment keeps are old (record (started_job moment run previous old) { status = InProgress; feeds = feeds }) front refl refl refl few refl fit counts
+      close_change moment keeps are old (record (started_job moment run previous old) { status = InProgress; feeds = begun old.request.fail_on_error feeds }) front refl refl refl few refl (begun_feeds old.request.fail_on_error feeds fit) (begun_counts old.request.fail_on_error feeds counts)
 
   pub refuse_change : (run previous : ℕ) (code : LogCode) → run ≤ old.number → old.status ≡ NotStarted → IsChange keeps.jobs old (refused_job moment run previous code old)
   refuse_change run previous code few rests = record {

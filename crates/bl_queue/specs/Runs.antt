@@ -1,7 +1,7 @@
 -- What becomes of a job when it is started, goes on, has a file ended, and is cancelled.
-use Rattle.std.specs.Prelude.{◌≡◌, ℕ, suc, zero, ◌+◌, Bool, true, false, if◌then◌else◌, List, [], ◌∷◌, map, slice_get, option_and_then, IsSomeAnd, None, Some}
+use Rattle.std.specs.Prelude.{◌≡◌, ℕ, suc, zero, ◌+◌, ◌&&◌, Bool, true, false, if◌then◌else◌, List, [], ◌∷◌, length, ◌≤◌, map, slice_get, option_and_then, IsSomeAnd, None, Some}
 use Rattle.std.specs.declared.option.Option.{Option}
-use Rattle.std.specs.List.{list_all}
+use Rattle.std.specs.List.{list_all, list_any}
 use Rattle.bl_value.specs.declared.log_code.LogCode.{LogCode}
 use Rattle.bl_value.specs.declared.log_code.LogCode.TheVariants.{FeedModified, ListFault, NoPreviousLoad, ReadFault, SourceNotFound, TooManyFiles}
 use Rattle.bl_files.specs.declared.feed.Feed.{Feed}
@@ -19,7 +19,7 @@ use Rattle.bl_files.specs.Carried.{AreCarried, DifferentNames, found_names, is_c
 use Rattle.bl_queue.specs.declared.job.Job.{Job}
 use Rattle.bl_queue.specs.declared.job_status.JobStatus.{JobStatus}
 use Rattle.bl_queue.specs.declared.job_status.JobStatus.TheVariants.{CancelledByUser, Completed, Failed, InProgress}
-use Rattle.bl_queue.specs.Statuses.{is_open}
+use Rattle.bl_queue.specs.Statuses.{is_failed, is_open}
 use Rattle.bl_queue.specs.Jobs.{Kept, has_open, job_of}
 use Rattle.bl_queue.specs.Previous.{previous_job}
 use Rattle.bl_queue.specs.Changes.{with_job}
@@ -125,9 +125,13 @@ feeds_of (Some older) = older.feeds
 abbrev pub started_job : ℕ → ℕ → ℕ → Job → Job
 started_job moment run previous job = record job { started = moment; latest = moment; run = run; previous = previous }
 
+-- A file that isn't read has failed at once. It stops a load that is to stop at errors.
+abbrev pub begun : Bool → List Feed → List Feed
+begun fail_on_error feeds = if fail_on_error && list_any (λ feed. is_failed feed.status) feeds then with_open_ended feed.CancelledDueToErrors feeds else feeds
+
 -- it goes on with these files, and has ended where each of them has
 abbrev pub running_job : ℕ → ℕ → ℕ → List Feed → Job → Job
-running_job moment run previous feeds job = closed (record (started_job moment run previous job) { status = InProgress; feeds = feeds })
+running_job moment run previous feeds job = closed (record (started_job moment run previous job) { status = InProgress; feeds = begun job.request.fail_on_error feeds })
 
 -- or it fails for this reason
 abbrev pub refused_job : ℕ → ℕ → ℕ → LogCode → Job → Job
@@ -150,6 +154,14 @@ IsStarted moment number plan.NoPrevious old new = IsRefused moment number NoPrev
 IsStarted moment number plan.SourceNotFound old new = IsRefused moment number SourceNotFound old new
 IsStarted moment number plan.ListFault old new = IsRefused moment number ListFault old new
 IsStarted moment number (plan.TooManyFiles n) old new = IsRefused moment number TooManyFiles old new
+
+-- a list of files that goes on is not too long
+abbrev pub HasRoom : List Job → ℕ → PlanResult → Type 0
+HasRoom jobs number (plan.Feeds found) = (feeds : List Feed) × AreCarried (feeds_of (goes_on_from jobs number)) found feeds × (length feeds ≤ 4096)
+HasRoom jobs number plan.NoPrevious = Unit {0}
+HasRoom jobs number plan.SourceNotFound = Unit {0}
+HasRoom jobs number plan.ListFault = Unit {0}
+HasRoom jobs number (plan.TooManyFiles n) = Unit {0}
 
 -- no name was found twice
 abbrev pub HasNames : PlanResult → Type 0

@@ -52,6 +52,16 @@ is_in_progress CancelledByUser = false
 is_in_progress Failed = false
 is_in_progress DependencyNotSatisfied = false
 
+abbrev pub is_failed : FeedStatus → Bool
+is_failed feed.NotStarted = false
+is_failed feed.InProgress = false
+is_failed feed.Completed = false
+is_failed feed.Failed = true
+is_failed feed.ReadError = false
+is_failed feed.Modified = false
+is_failed feed.CancelledDueToErrors = false
+is_failed feed.CancelledByUser = false
+
 -- a file of this status hasn't ended
 abbrev pub is_open : FeedStatus → Bool
 is_open feed.NotStarted = true

@@ -1,13 +1,14 @@
 // The list of jobs.
-ghost use Rattle.std.specs.Prelude.{◌≡◌, ◌+◌, true, false, [], IsSomeAnd, IfOk, IsOk, OnOk, OnErr, None};
+ghost use Rattle.std.specs.Prelude.{◌≡◌, ◌+◌, ◌≤◌, true, false, List as Items, [], length, IsSomeAnd, IfOk, IsOk, OnOk, OnErr, None};
 ghost use Rattle.std.specs.Result.{result_err};
 ghost use Rattle.bl_queue.specs.Jobs.{AreJobs, front_job, has_open, is_unended, job_of, number_in};
 ghost use Rattle.bl_queue.specs.Checks.{refusal};
 ghost use Rattle.bl_queue.specs.Previous.{front, previous};
 ghost use Rattle.bl_queue.specs.Statuses.{has_ended};
-ghost use Rattle.bl_files.specs.Carried.{DifferentNames, found_names};
+ghost use Rattle.bl_files.specs.Carried.{AreCarried, DifferentNames, found_names};
+ghost use Rattle.bl_files.specs.declared.feed.Feed.{Feed as FeedValue};
 ghost use Rattle.bl_queue.specs.declared.job_status.JobStatus.TheVariants.{NotStarted};
-ghost use Rattle.bl_queue.specs.Runs.{HasNames, IsChanged, IsOpenAt, IsRefused, IsRunning, IsStarted, cancelled_job, job_after_feed};
+ghost use Rattle.bl_queue.specs.Runs.{HasNames, HasRoom, IsChanged, IsOpenAt, IsRefused, IsRunning, IsStarted, cancelled_job, feeds_of, goes_on_from, job_after_feed};
 ghost use Rattle.bl_queue.specs.Changes.{IsEnded, IsSubmitted, new_job};
 
 use crate::checking::{busy, full, too_many, unknown, used_up};
@@ -177,10 +178,12 @@ impl Jobs {
 
     /// Starts the job at the front as it was planned: it goes on with the files that were found and
     /// with those of the load before it, and ends at once where each of them has ended, or it fails.
-    /// No name was found twice, and files that would be too many are no plan of files.
+    /// A file that isn't read has failed, and stops a load that is to stop at errors. No name was
+    /// found twice, and a plan of files has no more than 4,096 of them.
     pub fn start(&mut self, moment: u64, job: u32, plan: &PlanResult) -> Result<(), NoMemory>
         requires front { IsSomeAnd (front_job self.old.jobs) (λ it. (it.number ≡ job) × (it.status ≡ NotStarted)) }
         requires names { HasNames plan.now }
+        requires room { HasRoom self.old.jobs job plan.now }
         ensures ok { OnOk result (IsStarted moment job plan.now self.old self.new) }
         ensures err { OnErr result (self.new ≡ self.old) }
     {
@@ -196,6 +199,7 @@ impl Jobs {
     fn run(&mut self, moment: u64, job: u32, found: &List<Found>) -> Result<(), NoMemory>
         requires front { IsSomeAnd (front_job self.old.jobs) (λ it. (it.number ≡ job) × (it.status ≡ NotStarted)) }
         requires names { DifferentNames (found_names found.now) }
+        requires room { (feeds : Items FeedValue) × AreCarried (feeds_of (goes_on_from self.old.jobs job)) found.now feeds × (length feeds ≤ 4096) }
         ensures ok { OnOk result (IsRunning moment job found.now self.old self.new) }
         ensures err { OnErr result (self.new ≡ self.old) }
     {

@@ -1,18 +1,21 @@
 // A job is started.
-ghost use Rattle.std.specs.Prelude.{◌≡◌, ◌+◌, ◌<◌, ◌^◌, AllPairs, IfOk, IfSome, IsSomeAnd};
+ghost use Rattle.std.specs.Prelude.{◌≡◌, ◌+◌, ◌<◌, ◌≤◌, ◌^◌, List as Items, length, AllPairs, IfOk, IfSome, IsSomeAnd};
+ghost use Rattle.std.specs.List.{list_any};
 ghost use Rattle.std.specs.Option.{option_copied};
 ghost use Rattle.bl_files.specs.Carried.{AreCarried, AreFeeds, DifferentNames, found_names};
 ghost use Rattle.bl_queue.specs.Changes.{with_job};
 ghost use Rattle.bl_queue.specs.Doomed.{IsSettled};
 ghost use Rattle.bl_queue.specs.Pass.{AreOrdered};
-ghost use Rattle.bl_queue.specs.Runs.{by_mode, feeds_of, goes_on_from, number_of, refused_job, run_after, running_job};
+ghost use Rattle.bl_queue.specs.Statuses.{is_failed};
+ghost use Rattle.bl_files.specs.declared.feed.Feed.{Feed as FeedValue};
+ghost use Rattle.bl_queue.specs.Runs.{begun, by_mode, feeds_of, goes_on_from, number_of, refused_job, run_after, running_job};
 
-use crate::ending_feeds::bare_log;
+use crate::ending_feeds::{bare_log, with_open_ended};
 use crate::running::{close, place_of};
 use crate::searching::{job_of, previous_of};
 use crate::settling::settle;
 use crate::{Job, JobStatus};
-use bl_files::{Feed, Found, Mode, carry};
+use bl_files::{CarryRefusal, Feed, FeedStatus, Found, Mode, carried_feeds_are_one_list, carry};
 use bl_outside::{List, NoMemory};
 use bl_value::LogCode;
 use std::alloc::Global;
@@ -59,17 +62,19 @@ pub(crate) fn number_of(older: Option<&Job>) -> u32
 fn go_on(alloc: Global, previous: &List<Feed>, found: &List<Found>) -> Result<List<Feed>, NoMemory>
     requires previous { AreFeeds previous.now }
     requires found { DifferentNames (found_names found.now) }
+    requires room { (feeds : Items FeedValue) × AreCarried previous.now found.now feeds × (length feeds ≤ 4096) }
     ensures carried { IfOk result (λ feeds. AreCarried previous.now found.now feeds) }
     ensures feeds { IfOk result AreFeeds }
 {
+    carried_feeds_are_one_list();
     match carry(alloc, previous, found) {
         Ok(feeds) => Ok(feeds),
-        Err(_) => Err(NoMemory),
+        Err(CarryRefusal::TooMany(_)) => unreachable!(),
+        Err(CarryRefusal::NoMemory) => Err(NoMemory),
     }
 }
 
-/// The files of a load that goes on from another. Too many are taken for want of memory: such a plan
-/// is no plan of files.
+/// The files of a load that goes on from another.
 pub(crate) fn carried(
     alloc: Global,
     older: Option<&Job>,
@@ -77,12 +82,32 @@ pub(crate) fn carried(
 ) -> Result<List<Feed>, NoMemory>
     requires previous { AreFeeds (feeds_of (option_copied older)) }
     requires found { DifferentNames (found_names found.now) }
+    requires room { (feeds : Items FeedValue) × AreCarried (feeds_of (option_copied older)) found.now feeds × (length feeds ≤ 4096) }
     ensures carried { IfOk result (λ feeds. AreCarried (feeds_of (option_copied older.entry)) found.now feeds) }
     ensures feeds { IfOk result AreFeeds }
 {
     match older {
         Some(job) => go_on(alloc, &job.feeds, found),
         None => go_on(alloc, &List::new(alloc), found),
+    }
+}
+
+fn any_failed(feeds: &[Feed]) -> bool
+    ensures { result ≡ list_any (λ feed. is_failed feed.status) feeds.now }
+{
+    feeds
+        .iter()
+        .any(|feed| matches!(feed.status, FeedStatus::Failed))
+}
+
+// A file that has failed at once stops a load that is to stop at errors.
+fn begun(fail_on_error: bool, feeds: List<Feed>) -> List<Feed>
+    ensures { result ≡ begun fail_on_error feeds }
+{
+    if fail_on_error && any_failed(feeds.as_slice()) {
+        with_open_ended(feeds, FeedStatus::CancelledDueToErrors)
+    } else {
+        feeds
     }
 }
 
@@ -94,7 +119,7 @@ fn run_job(job: &mut Job, moment: u64, run: u32, previous: u32, feeds: List<Feed
     job.run = run;
     job.previous = previous;
     job.status = JobStatus::InProgress;
-    job.feeds = feeds;
+    job.feeds = begun(job.request.fail_on_error, feeds);
     close(job);
 }
 

@@ -1,4 +1,4 @@
-use Rattle.std.proofs.Common.{◌≡◌, ◌+◌, ◌<◌, ◌≤◌, ◌^◌, IsSomeAnd, IfSome, arith, sym, subst, ap, ◌∙◌}
+use Rattle.std.proofs.Common.{◌≡◌, ◌+◌, ◌<◌, ◌≤◌, ◌^◌, IsSomeAnd, IfSome, List, length, arith, sym, subst, ap, ◌∙◌}
 use Rattle.std.specs.declared.option.Option.{Option}
 use Rattle.std.specs.Option.{option_copied}
 use Rattle.bl_queue.specs.declared.job.Job.{Job}
@@ -8,6 +8,7 @@ use Rattle.bl_queue.specs.Changes.{with_job}
 use Rattle.bl_queue.specs.Doomed.{IsSettled}
 use Rattle.bl_queue.specs.Pass.{AreOrdered}
 use Rattle.bl_queue.specs.Runs.{feeds_of, goes_on_from, run_after, running_job}
+use Rattle.bl_files.specs.declared.feed.Feed.{Feed}
 use Rattle.bl_files.specs.Carried.{AreCarried, AreFeeds}
 use Rattle.bl_queue.proofs.FatedJobs.{ordered}
 use Rattle.bl_queue.proofs.ChangedJobs.{changed_jobs, changed_steady, front_found, front_in, some_and}
@@ -26,6 +27,13 @@ carried-requires-clause-previous c =
     let kept : Kept = record { last = c.self.inside.last; jobs = c.self.inside.jobs } in
     let from : option_copied c.goes_on_from-older.result ≡ goes_on_from kept.jobs c.args.job = c.goes_on_from-older.ensures ∙ ap (λ l. goes_on_from l c.args.job) c.as_slice.ensures in
     subst (λ (o : Option Job). AreFeeds (feeds_of o)) (sym from) (feeds_fit c.args.job (goes_on_from kept.jobs c.args.job) (older kept c.self.invariant c.args.job)).0
+
+pub carried-requires-clause-room : goal.carried-requires-clause-room
+carried-requires-clause-room c =
+    let kept : Kept = record { last = c.self.inside.last; jobs = c.self.inside.jobs } in
+    let from : option_copied c.goes_on_from-older.result ≡ goes_on_from kept.jobs c.args.job = c.goes_on_from-older.ensures ∙ ap (λ l. goes_on_from l c.args.job) c.as_slice.ensures in
+    subst (λ (o : Option Job). (feeds : List Feed) × AreCarried (feeds_of o) c.args.found.now feeds × (length feeds ≤ 4096)) (sym from)
+    (subst (λ (k : Kept). (feeds : List Feed) × AreCarried (feeds_of (goes_on_from k.jobs c.args.job)) c.args.found.now feeds × (length feeds ≤ 4096)) (sym c.self.view_is) c.requires.room)
 
 pub with_running-requires-clause-ordered : goal.with_running-requires-clause-ordered
 with_running-requires-clause-ordered c =
