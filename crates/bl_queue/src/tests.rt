@@ -2,13 +2,18 @@
 ghost use Rattle.std.specs.Prelude.{◌≡◌, ◌≤◌, true, false, IfOk, IsSomeAnd, IsTrue, slice_get};
 ghost use Rattle.bl_queue.specs.Jobs.{front_job, has_open, is_unended, job_of};
 ghost use Rattle.bl_queue.specs.declared.job_status.JobStatus.TheVariants.{NotStarted};
-ghost use Rattle.bl_queue.specs.Runs.{HasNames, IsOpenAt};
+ghost use Rattle.bl_files.specs.Carried.{DifferentNames, found_names};
+ghost use Rattle.bl_files.specs.declared.plan_result.PlanResult.TheVariants.{Feeds};
+ghost use Rattle.bl_queue.specs.Runs.{HasNames, HasRoom, IsOpenAt};
 ghost use Rattle.bl_queue.specs.Statuses.{is_open};
 
 use crate::ending_feeds::is_open;
 use crate::searching::{front_of, job_of};
+use crate::starting::goes_on_from;
 use crate::{CheckRefusal, JobStatus, Jobs, MOST_KEPT};
-use bl_files::{Feed, FeedEnd, FeedKind, FeedStatus, Found, LoadRequest, Log, Mode, PlanResult};
+use bl_files::{
+    Feed, FeedEnd, FeedKind, FeedStatus, Found, LoadRequest, Log, Mode, PlanResult, carry,
+};
 use bl_outside::{Digest, List, NoMemory, Text};
 use bl_value::LogCode;
 use std::alloc::Global;
@@ -200,24 +205,30 @@ fn may_end_feed(jobs: &Jobs, number: u32, place: u32) -> bool
     }
 }
 
-fn file(alloc: Global, name: &[u8]) -> Result<Found, NoMemory>
+fn file(alloc: Global, name: &[u8], kind: FeedKind) -> Result<Found, NoMemory>
     ensures { IfOk result (λ file. file.name ≡ name.now) }
 {
     Ok(Found {
         name: Text::copy_of(alloc, name)?,
-        kind: FeedKind::Vertex,
+        kind,
         digest: Digest { bytes: [1; 32] },
     })
 }
 
-// The files a and b.
-fn two_files(alloc: Global) -> Result<PlanResult, NoMemory>
+// The files a and b, the first of this kind.
+fn two_files_of(alloc: Global, kind: FeedKind) -> Result<PlanResult, NoMemory>
     ensures { IfOk result HasNames }
 {
     let mut found = List::new(alloc);
-    found.push(file(alloc, b"a")?)?;
-    found.push(file(alloc, b"b")?)?;
+    found.push(file(alloc, b"a", kind)?)?;
+    found.push(file(alloc, b"b", FeedKind::Vertex)?)?;
     Ok(PlanResult::Feeds(found))
+}
+
+fn two_files(alloc: Global) -> Result<PlanResult, NoMemory>
+    ensures { IfOk result HasNames }
+{
+    two_files_of(alloc, FeedKind::Vertex)
 }
 
 fn no_files(alloc: Global) -> PlanResult
@@ -226,11 +237,34 @@ fn no_files(alloc: Global) -> PlanResult
     PlanResult::Feeds(List::new(alloc))
 }
 
+// The files that go on are not too many.
+fn may_go_on(alloc: Global, jobs: &Jobs, number: u32, found: &List<Found>) -> bool
+    requires { DifferentNames (found_names found.now) }
+    ensures { IsTrue result → HasRoom jobs.now.jobs number (Feeds found.now) }
+{
+    match goes_on_from(jobs.kept().as_slice(), number) {
+        Some(older) => carry(alloc, &older.feeds, found).is_ok(),
+        None => carry(alloc, &List::new(alloc), found).is_ok(),
+    }
+}
+
+fn has_room(alloc: Global, jobs: &Jobs, number: u32, plan: &PlanResult) -> bool
+    requires { HasNames plan.now }
+    ensures { IsTrue result → HasRoom jobs.now.jobs number plan.now }
+{
+    match plan {
+        PlanResult::Feeds(found) => may_go_on(alloc, jobs, number, found),
+        _ => true,
+    }
+}
+
 // The job is the next to start, and is started.
-fn start(jobs: &mut Jobs, number: u32, plan: &PlanResult) -> bool
+fn start(alloc: Global, jobs: &mut Jobs, number: u32, plan: &PlanResult) -> bool
     requires { HasNames plan.now }
 {
-    may_start(jobs, number) && jobs.start(20, number, plan).is_ok()
+    may_start(jobs, number)
+        && has_room(alloc, jobs, number, plan)
+        && jobs.start(20, number, plan).is_ok()
 }
 
 fn end_feed(jobs: &mut Jobs, number: u32, place: u32, end: FeedEnd) -> bool {
@@ -264,15 +298,17 @@ fn a_load_goes_on_from_the_newest_of_its_source(rt: HostRuntime) {
         assert!(rt; ask(&mut jobs, request).is_ok());
     }
     let none = no_files(rt.alloc());
-    assert!(rt; start(&mut jobs, 1, &none) && status_of(&jobs, 1) == Some(JobStatus::Completed));
-    assert!(rt; start(&mut jobs, 2, &none) && jobs.front() == Some(3));
+    assert!(rt;
+        start(rt.alloc(), &mut jobs, 1, &none) && status_of(&jobs, 1) == Some(JobStatus::Completed)
+    );
+    assert!(rt; start(rt.alloc(), &mut jobs, 2, &none) && jobs.front() == Some(3));
     assert!(rt; jobs.previous(2) == None && jobs.previous(3) == Some(1));
-    assert!(rt; start(&mut jobs, 3, &PlanResult::ListFault));
+    assert!(rt; start(rt.alloc(), &mut jobs, 3, &PlanResult::ListFault));
     assert!(rt; status_of(&jobs, 3) == Some(JobStatus::Failed));
     assert!(rt; jobs.previous(4) == Some(1) && jobs.previous(5) == Some(1));
-    assert!(rt; start(&mut jobs, 4, &none));
+    assert!(rt; start(rt.alloc(), &mut jobs, 4, &none));
     assert!(rt; jobs.previous(4) == Some(1) && jobs.previous(5) == Some(4));
-    assert!(rt; start(&mut jobs, 5, &none) && jobs.front() == None);
+    assert!(rt; start(rt.alloc(), &mut jobs, 5, &none) && jobs.front() == None);
     let runs = [1, 1, 2, 2, 3];
     let previous = [0, 0, 1, 1, 4];
     for (i, job) in jobs.kept().as_slice().iter().enumerate() {
@@ -290,16 +326,37 @@ fn the_end_of_a_file_stops_or_ends_the_job(rt: HostRuntime) {
     assert!(rt; ask_with(rt.alloc(), &mut jobs, &[1]) == Ok(Some(2)));
     assert!(rt; ask_with(rt.alloc(), &mut jobs, &[]) == Ok(Some(3)));
     let plan = two_files(rt.alloc()).expect(&rt, "memory");
-    assert!(rt; start(&mut jobs, 1, &plan));
+    assert!(rt; start(rt.alloc(), &mut jobs, 1, &plan));
     assert!(rt; status_of(&jobs, 1) == Some(JobStatus::InProgress));
     assert!(rt; end_feed(&mut jobs, 1, 0, FeedEnd::Completed));
     assert!(rt; status_of(&jobs, 1) == Some(JobStatus::InProgress));
     assert!(rt; !end_feed(&mut jobs, 1, 0, FeedEnd::Completed));
     assert!(rt; end_feed(&mut jobs, 1, 1, FeedEnd::Completed));
     assert!(rt; status_of(&jobs, 1) == Some(JobStatus::Completed));
-    assert!(rt; start(&mut jobs, 2, &plan));
+    assert!(rt; start(rt.alloc(), &mut jobs, 2, &plan));
     assert!(rt; status_of(&jobs, 2) == Some(JobStatus::Completed));
-    assert!(rt; start(&mut jobs, 3, &PlanResult::SourceNotFound) && jobs.front() == None);
+    assert!(rt;
+        start(rt.alloc(), &mut jobs, 3, &PlanResult::SourceNotFound) && jobs.front() == None
+    );
+}
+
+#[test]
+fn a_file_that_is_not_read_stops_a_load_that_is_to_stop(rt: HostRuntime) {
+    for (stops, job, other) in [
+        (true, JobStatus::Failed, FeedStatus::CancelledDueToErrors),
+        (false, JobStatus::InProgress, FeedStatus::NotStarted),
+    ] {
+        let mut jobs = Jobs::new(rt.alloc());
+        let mut request = request_of(rt.alloc(), b"s3://b/k", true, &[]).expect(&rt, "memory");
+        request.fail_on_error = stops;
+        assert!(rt; ask(&mut jobs, request).is_ok());
+        let refused = FeedKind::Refused(LogCode::Header, 2);
+        let plan = two_files_of(rt.alloc(), refused).expect(&rt, "memory");
+        assert!(rt; start(rt.alloc(), &mut jobs, 1, &plan));
+        assert!(rt; status_of(&jobs, 1) == Some(job), "{stops}");
+        assert!(rt; feed_status(&jobs, 1, 0) == Some(FeedStatus::Failed), "{stops}");
+        assert!(rt; feed_status(&jobs, 1, 1) == Some(other), "{stops}");
+    }
 }
 
 #[test]
@@ -309,13 +366,13 @@ fn a_stop_and_a_cancel_end_every_file(rt: HostRuntime) {
     assert!(rt; ask_with(rt.alloc(), &mut jobs, &[1]) == Ok(Some(2)));
     assert!(rt; ask_with(rt.alloc(), &mut jobs, &[]) == Ok(Some(3)));
     let plan = two_files(rt.alloc()).expect(&rt, "memory");
-    assert!(rt; start(&mut jobs, 1, &plan));
+    assert!(rt; start(rt.alloc(), &mut jobs, 1, &plan));
     assert!(rt; end_feed(&mut jobs, 1, 0, FeedEnd::Modified));
     assert!(rt; status_of(&jobs, 1) == Some(JobStatus::Failed));
     assert!(rt; feed_status(&jobs, 1, 0) == Some(FeedStatus::Modified));
     assert!(rt; feed_status(&jobs, 1, 1) == Some(FeedStatus::CancelledDueToErrors));
     assert!(rt; status_of(&jobs, 2) == Some(JobStatus::DependencyNotSatisfied));
-    assert!(rt; start(&mut jobs, 3, &plan));
+    assert!(rt; start(rt.alloc(), &mut jobs, 3, &plan));
     assert!(rt; cancel(&mut jobs, 3) && !cancel(&mut jobs, 3));
     assert!(rt; status_of(&jobs, 3) == Some(JobStatus::CancelledByUser));
     assert!(rt; feed_status(&jobs, 3, 0) == Some(FeedStatus::CancelledByUser));

@@ -1,7 +1,7 @@
 use Rattle.std.proofs.Common.{◌≡◌, [], ◌∷◌, ◌++◌, sym, ap, ◌∙◌, subst, refl}
 use Rattle.bl_files.specs.Carried.{DifferentNames, found_names}
 use Rattle.bl_queue.proofs.TestFiles.{two_names}
-use Rattle.bl_queue.proofs.tests.two_files.Goals as goal
+use Rattle.bl_queue.proofs.tests.two_files_of.Goals as goal
 
 pub returns : goal.returns
 returns c =
