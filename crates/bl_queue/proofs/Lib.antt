@@ -11,3 +11,4 @@ mod EndedFeeds
 pub mod RunChanges
 pub mod Starts
 mod TestFiles
+mod LastLogs

@@ -21,6 +21,7 @@ mod running;
 mod searching;
 mod settling;
 mod starting;
+mod taking_rows;
 
 pub use check_refusal::CheckRefusal;
 pub use checking::{MOST_DEPENDENCIES, MOST_QUEUED};
