@@ -12,3 +12,4 @@ pub mod RunChanges
 pub mod Starts
 mod TestFiles
 mod LastLogs
+pub mod FedFeeds

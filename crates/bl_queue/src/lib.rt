@@ -28,6 +28,7 @@ pub use checking::{MOST_DEPENDENCIES, MOST_QUEUED};
 pub use job::Job;
 pub use job_status::JobStatus;
 pub use jobs::{Jobs, MOST_KEPT};
+pub use taking_rows::MOST_LOGS;
 
 #[cfg(test)]
 mod tests;
