@@ -11,3 +11,5 @@ mod EndedFeeds
 pub mod RunChanges
 pub mod Starts
 mod TestFiles
+mod LastLogs
+pub mod FedFeeds

@@ -1,5 +1,5 @@
 -- One item of a list is changed, found by its place.
-use Rattle.std.specs.Prelude.{◌≡◌, ◌<◌, ℕ, ◌==◌, false, cond, List, [], ◌∷◌, length, map, position, refl, All, AllPairs, Some, None}
+use Rattle.std.specs.Prelude.{◌≡◌, ◌<◌, ℕ, ◌==◌, false, cond, List, [], ◌∷◌, length, map, position, refl, All, AllPairs, Some, None, IsSomeAnd, slice_get}
 use Rattle.std.proofs.Common.{ap, ◌∙◌, arith, get_or, set, suc, zero}
 use Rattle.std.proofs.lemmas.Bool.{eqb-true, eq-eqb, ne_eqb}
 use Rattle.std.proofs.lemmas.List.Folds.{map_fixed}
@@ -40,3 +40,8 @@ pub feed_at : (change : Feed → Feed) (feeds : List Feed) (i : ℕ) (d : Feed) 
 feed_at change [] i d within = absurd (omega arith)
 feed_at change (feed ∷ feeds) zero d within = refl
 feed_at change (feed ∷ feeds) (suc i) d within = ap (λ l. feed ∷ l) (feed_at change feeds i d (omega arith))
+
+pub some_within : (place : ℕ) (feeds : List Feed) (P : Feed → Type 0) → IsSomeAnd (slice_get feeds place) P → place < length feeds
+some_within place [] P h = absurd h
+some_within zero (feed ∷ feeds) P h = omega arith
+some_within (suc place) (feed ∷ feeds) P h = omega (arith, some_within place feeds P h)

@@ -30,7 +30,7 @@ cancel_change moment kept are old there = record {
   first = λ unended. absurd (true≢false (sym unended));
 }
 
-running_begun : (s : JobStatus) → is_in_progress s ≡ true → is_to_start s ≡ false
+pub running_begun : (s : JobStatus) → is_in_progress s ≡ true → is_to_start s ≡ false
 running_begun NotStarted h = absurd (true≢false (sym h))
 running_begun InQueue h = absurd (true≢false (sym h))
 running_begun InProgress h = refl

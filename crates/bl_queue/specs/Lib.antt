@@ -6,3 +6,4 @@ pub mod Doomed
 pub mod Changes
 pub mod Pass
 pub mod Runs
+pub mod Rows

@@ -1,5 +1,5 @@
 // The list of jobs.
-ghost use Rattle.std.specs.Prelude.{◌≡◌, ◌+◌, ◌≤◌, true, false, List as Items, [], length, IsSomeAnd, IfOk, IsOk, OnOk, OnErr, None};
+ghost use Rattle.std.specs.Prelude.{◌≡◌, ◌+◌, ◌-◌, ◌≤◌, true, false, List as Items, [], length, IsSomeAnd, IfOk, IsOk, OnOk, OnErr, None};
 ghost use Rattle.std.specs.Result.{result_err};
 ghost use Rattle.bl_queue.specs.Jobs.{AreJobs, front_job, has_open, is_unended, job_of, number_in};
 ghost use Rattle.bl_queue.specs.Checks.{refusal};
@@ -9,6 +9,7 @@ ghost use Rattle.bl_files.specs.Carried.{AreCarried, DifferentNames, found_names
 ghost use Rattle.bl_files.specs.declared.feed.Feed.{Feed as FeedValue};
 ghost use Rattle.bl_queue.specs.declared.job_status.JobStatus.TheVariants.{NotStarted};
 ghost use Rattle.bl_queue.specs.Runs.{HasNames, HasRoom, IsChanged, IsOpenAt, IsRefused, IsRunning, IsStarted, cancelled_job, feeds_of, goes_on_from, job_after_feed};
+ghost use Rattle.bl_queue.specs.Rows.{MayFeed, fed_job};
 ghost use Rattle.bl_queue.specs.Changes.{IsEnded, IsSubmitted, new_job};
 
 use crate::checking::{busy, full, too_many, unknown, used_up};
@@ -17,8 +18,9 @@ use crate::searching::{front_of, job_of, previous_of};
 use crate::settling::with_settled;
 use crate::starting::{carried, goes_on_from, number_of, run_after, with_refused, with_running};
 use crate::{CheckRefusal, Job, JobStatus};
+use crate::taking_rows::{Taken, logs_with, with_rows};
 use bl_files::{FeedEnd, Found, LoadRequest, Log, PlanResult};
-use bl_outside::{List, NoMemory};
+use bl_outside::{Digest, List, NoMemory};
 use bl_value::LogCode;
 use std::alloc::Global;
 use std::marker::Model;
@@ -165,15 +167,49 @@ impl Jobs {
         self.jobs = with_cancelled(self.alloc, jobs, moment, job);
     }
 
+    /// Takes rows of a file of the job at the front: so many more of its records, of which so many
+    /// said nothing new and the ones of these logs were refused, and the digest behind them. Of the
+    /// logs of all its files the last 10,000 stay.
+    pub fn rows(
+        &mut self,
+        moment: u64,
+        job: u32,
+        feed: u32,
+        rows: u32,
+        digest: Digest,
+        duplicates: u32,
+        logs: &List<Log>,
+    ) -> Result<(), NoMemory>
+        requires number { 1 ≤ feed }
+        requires front { IsSomeAnd (front_job self.old.jobs) (λ it. (it.number ≡ job) × MayFeed (feed - 1) rows it) }
+        requires few { duplicates + length logs.now ≤ rows }
+        ensures ok { OnOk result (IsChanged moment job (fed_job moment (feed - 1) rows digest duplicates logs.now) self.old self.new) }
+        ensures err { OnErr result (self.new ≡ self.old) }
+    {
+        let place = feed as usize - 1;
+        let new = logs.as_slice();
+        let all = logs_with(self.alloc, self.jobs.as_slice(), job, place, new)?;
+        let taken = Taken {
+            rows,
+            duplicates,
+            digest,
+        };
+        let jobs = mem::replace(&mut self.jobs, List::new(self.alloc));
+        self.jobs = with_rows(self.alloc, jobs, moment, job, place, taken, new, all);
+        Ok(())
+    }
+
     /// Ends a file of the job at the front, and where that stops the job all its others. The job
     /// ends where each of its files has, and then what can't come to its turn any more ends with it.
     /// It takes no memory.
     pub fn end_feed(&mut self, moment: u64, job: u32, feed: u32, end: FeedEnd)
-        requires { IsSomeAnd (front_job self.old.jobs) (λ it. (it.number ≡ job) × IsOpenAt feed it) }
-        ensures { IsChanged moment job (job_after_feed moment feed end) self.old self.new }
+        requires number { 1 ≤ feed }
+        requires front { IsSomeAnd (front_job self.old.jobs) (λ it. (it.number ≡ job) × IsOpenAt (feed - 1) it) }
+        ensures { IsChanged moment job (job_after_feed moment (feed - 1) end) self.old self.new }
     {
+        let place = feed as usize - 1;
         let jobs = mem::replace(&mut self.jobs, List::new(self.alloc));
-        self.jobs = with_feed_ended(self.alloc, jobs, moment, job, feed as usize, end);
+        self.jobs = with_feed_ended(self.alloc, jobs, moment, job, place, end);
     }
 
     /// Starts the job at the front as it was planned: it goes on with the files that were found and

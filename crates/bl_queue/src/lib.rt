@@ -21,12 +21,14 @@ mod running;
 mod searching;
 mod settling;
 mod starting;
+mod taking_rows;
 
 pub use check_refusal::CheckRefusal;
 pub use checking::{MOST_DEPENDENCIES, MOST_QUEUED};
 pub use job::Job;
 pub use job_status::JobStatus;
 pub use jobs::{Jobs, MOST_KEPT};
+pub use taking_rows::MOST_LOGS;
 
 #[cfg(test)]
 mod tests;
