@@ -41,8 +41,8 @@ behind_more initial feeds place room more d new is made less =
     record {
       within = omega arith;
       done = ap (λ l. set l place new) split ∙ set_at (take place initial) feed (last_logs (drop (place + 1) initial)) new place (omega (arith, length-take place initial))
-        ∙ ap (λ x. take place initial ++ x ∷ last_logs (drop (place + 1) initial)) (made ∙ ap (λ r. kept_logs r feed) is.left) ∙ sym (ap (λ l. take place initial ++ last_logs l) rest);
+          ∙ ap (λ x. take place initial ++ x ∷ last_logs (drop (place + 1) initial)) (made ∙ ap (λ r. kept_logs r feed) is.left) ∙ sym (ap (λ l. take place initial ++ last_logs l) rest);
       left = less ∙ ap (λ r. r - length feed.logs) is.left ∙ sums (length feed.logs) (length (row_logs (drop (place + 1) initial))) ∙ sym (ap (λ l. 10000 - length (row_logs l)) rest ∙ ap (λ n. 10000 - n) (length-append feed.logs (row_logs (drop (place + 1) initial))));
     } where
-    sums : (a b : ℕ) → 10000 - b - a ≡ 10000 - (a + b)
-    sums a b = omega arith
+      sums : (a b : ℕ) → 10000 - b - a ≡ 10000 - (a + b)
+      sums a b = omega arith

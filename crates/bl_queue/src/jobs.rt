@@ -17,8 +17,8 @@ use crate::running::{with_cancelled, with_ended, with_feed_ended};
 use crate::searching::{front_of, job_of, previous_of};
 use crate::settling::with_settled;
 use crate::starting::{carried, goes_on_from, number_of, run_after, with_refused, with_running};
-use crate::{CheckRefusal, Job, JobStatus};
 use crate::taking_rows::{Taken, logs_with, with_rows};
+use crate::{CheckRefusal, Job, JobStatus};
 use bl_files::{FeedEnd, Found, LoadRequest, Log, PlanResult};
 use bl_outside::{Digest, List, NoMemory};
 use bl_value::LogCode;
@@ -167,7 +167,7 @@ impl Jobs {
         self.jobs = with_cancelled(self.alloc, jobs, moment, job);
     }
 
-    /// Takes rows of a file of the job at the front: so many more of its records, of which so many
+    /// Takes rows of a file of the job at the front, counted from 1: so many more of its records, of which so many
     /// said nothing new and the ones of these logs were refused, and the digest behind them. Of the
     /// logs of all its files the last 10,000 stay.
     pub fn rows(
@@ -199,7 +199,7 @@ impl Jobs {
         Ok(())
     }
 
-    /// Ends a file of the job at the front, and where that stops the job all its others. The job
+    /// Ends a file of the job at the front, counted from 1, and where that stops the job all others. The job
     /// ends where each of its files has, and then what can't come to its turn any more ends with it.
     /// It takes no memory.
     pub fn end_feed(&mut self, moment: u64, job: u32, feed: u32, end: FeedEnd)

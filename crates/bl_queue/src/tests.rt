@@ -1,5 +1,5 @@
 // Loads taken on, refused and ended.
-ghost use Rattle.std.specs.Prelude.{◌≡◌, ◌≤◌, true, false, IfOk, IsSomeAnd, IsTrue, slice_get};
+ghost use Rattle.std.specs.Prelude.{◌≡◌, ◌-◌, ◌≤◌, true, false, IfOk, IsSomeAnd, IsTrue, slice_get};
 ghost use Rattle.bl_queue.specs.Jobs.{front_job, has_open, is_unended, job_of};
 ghost use Rattle.bl_queue.specs.declared.job_status.JobStatus.TheVariants.{NotStarted};
 ghost use Rattle.bl_files.specs.Carried.{DifferentNames, found_names};
@@ -196,11 +196,12 @@ fn is_open_at(feeds: &[Feed], place: u32) -> bool
     }
 }
 
-fn may_end_feed(jobs: &Jobs, number: u32, place: u32) -> bool
-    ensures { IsTrue result → IsSomeAnd (front_job jobs.now.jobs) (λ it. (it.number ≡ number) × IsOpenAt place it) }
+fn may_end_feed(jobs: &Jobs, number: u32, feed: u32) -> bool
+    requires { 1 ≤ feed }
+    ensures { IsTrue result → IsSomeAnd (front_job jobs.now.jobs) (λ it. (it.number ≡ number) × IsOpenAt (feed - 1) it) }
 {
     match front_of(jobs.kept().as_slice()) {
-        Some(job) => job.number == number && is_open_at(job.feeds.as_slice(), place),
+        Some(job) => job.number == number && is_open_at(job.feeds.as_slice(), feed - 1),
         None => false,
     }
 }
@@ -267,9 +268,10 @@ fn start(alloc: Global, jobs: &mut Jobs, number: u32, plan: &PlanResult) -> bool
         && jobs.start(20, number, plan).is_ok()
 }
 
-fn end_feed(jobs: &mut Jobs, number: u32, place: u32, end: FeedEnd) -> bool {
-    if may_end_feed(jobs, number, place) {
-        jobs.end_feed(30, number, place, end);
+// The file of this number, counted from 1, is one that hasn't ended, and ends.
+fn end_feed(jobs: &mut Jobs, number: u32, feed: u32, end: FeedEnd) -> bool {
+    if feed > 0 && may_end_feed(jobs, number, feed) {
+        jobs.end_feed(30, number, feed, end);
         true
     } else {
         false
@@ -328,10 +330,10 @@ fn the_end_of_a_file_stops_or_ends_the_job(rt: HostRuntime) {
     let plan = two_files(rt.alloc()).expect(&rt, "memory");
     assert!(rt; start(rt.alloc(), &mut jobs, 1, &plan));
     assert!(rt; status_of(&jobs, 1) == Some(JobStatus::InProgress));
-    assert!(rt; end_feed(&mut jobs, 1, 0, FeedEnd::Completed));
-    assert!(rt; status_of(&jobs, 1) == Some(JobStatus::InProgress));
-    assert!(rt; !end_feed(&mut jobs, 1, 0, FeedEnd::Completed));
     assert!(rt; end_feed(&mut jobs, 1, 1, FeedEnd::Completed));
+    assert!(rt; status_of(&jobs, 1) == Some(JobStatus::InProgress));
+    assert!(rt; !end_feed(&mut jobs, 1, 1, FeedEnd::Completed));
+    assert!(rt; end_feed(&mut jobs, 1, 2, FeedEnd::Completed));
     assert!(rt; status_of(&jobs, 1) == Some(JobStatus::Completed));
     assert!(rt; start(rt.alloc(), &mut jobs, 2, &plan));
     assert!(rt; status_of(&jobs, 2) == Some(JobStatus::Completed));
@@ -354,7 +356,10 @@ fn a_file_that_is_not_read_stops_a_load_that_is_to_stop(rt: HostRuntime) {
         let plan = two_files_of(rt.alloc(), refused).expect(&rt, "memory");
         assert!(rt; start(rt.alloc(), &mut jobs, 1, &plan));
         assert!(rt; status_of(&jobs, 1) == Some(job), "{stops}");
-        assert!(rt; feed_status(&jobs, 1, 0) == Some(FeedStatus::Failed), "{stops}");
+        assert!(rt;
+            feed_status(&jobs, 1, 0) == Some(FeedStatus::Failed),
+            "{stops}"
+        );
         assert!(rt; feed_status(&jobs, 1, 1) == Some(other), "{stops}");
     }
 }
@@ -367,7 +372,7 @@ fn a_stop_and_a_cancel_end_every_file(rt: HostRuntime) {
     assert!(rt; ask_with(rt.alloc(), &mut jobs, &[]) == Ok(Some(3)));
     let plan = two_files(rt.alloc()).expect(&rt, "memory");
     assert!(rt; start(rt.alloc(), &mut jobs, 1, &plan));
-    assert!(rt; end_feed(&mut jobs, 1, 0, FeedEnd::Modified));
+    assert!(rt; end_feed(&mut jobs, 1, 1, FeedEnd::Modified));
     assert!(rt; status_of(&jobs, 1) == Some(JobStatus::Failed));
     assert!(rt; feed_status(&jobs, 1, 0) == Some(FeedStatus::Modified));
     assert!(rt; feed_status(&jobs, 1, 1) == Some(FeedStatus::CancelledDueToErrors));
