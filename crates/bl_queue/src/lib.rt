@@ -17,6 +17,7 @@ mod ending_feeds;
 mod job;
 mod job_status;
 mod jobs;
+mod laws;
 mod running;
 mod searching;
 mod settling;
@@ -28,6 +29,7 @@ pub use checking::{MOST_DEPENDENCIES, MOST_QUEUED};
 pub use job::Job;
 pub use job_status::JobStatus;
 pub use jobs::{Jobs, MOST_KEPT};
+pub use laws::{settled_jobs_are_one_list, settled_jobs_stay, the_last_logs_stay};
 pub use taking_rows::MOST_LOGS;
 
 #[cfg(test)]
