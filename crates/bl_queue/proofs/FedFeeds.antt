@@ -1,6 +1,5 @@
 -- What the files of a job keep when rows of one of them are taken.
-use Rattle.std.specs.Prelude.{◌≡◌, ◌+◌, ◌<◌, ◌≤◌, ◌^◌, ℕ, Bool, true, false, ◌||◌, List, [], ◌∷◌, ◌++◌, length, slice_get, count_by, refl, All, Contains, IsSomeAnd, Some}
-use Rattle.std.specs.declared.option.Option.{Option}
+use Rattle.std.specs.Prelude.{◌≡◌, ◌+◌, ◌<◌, ◌≤◌, ◌^◌, ℕ, true, ◌||◌, List, [], ◌∷◌, ◌++◌, length, slice_get, refl, All, Contains, IsSomeAnd, Some}
 use Rattle.std.proofs.Common.{sym, ap, subst, ◌∙◌, arith, suc, zero}
 use Rattle.std.specs.List.{AllZip, list_any}
 use Rattle.std.proofs.lemmas.Bool.{true≢false, or_right}

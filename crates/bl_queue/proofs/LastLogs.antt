@@ -1,10 +1,13 @@
 -- The last 10,000 logs of the files of a job.
 use Rattle.std.specs.Prelude.{◌≡◌, ◌+◌, ◌-◌, ◌<◌, ◌≤◌, ℕ, List, [], ◌∷◌, ◌++◌, length, take, drop, refl}
-use Rattle.std.proofs.Common.{sym, ap, subst, ◌∙◌, arith, get_or, set, length-append, length-take, append_assoc, length-drop, zero, suc}
+use Rattle.std.proofs.Common.{sym, ap, ◌∙◌, arith, get_or, set, length-append, length-take, append_assoc}
 use Rattle.std.proofs.lemmas.List.{take_all, drop_all, take_more, drop_more, set_at, append-nil, get_or_at}
+use Rattle.std.proofs.Common.{inl, inr}
+use Rattle.std.proofs.lemmas.Bool.{cases_lt}
+use Rattle.std.proofs.lemmas.List.{drop-append-le, drop-drop, drop_at}
 use Rattle.bl_files.specs.declared.feed.Feed.{Feed}
 use Rattle.bl_files.specs.declared.log.Log.{Log}
-use Rattle.bl_files.specs.ErrorFeed.{row_logs}
+use Rattle.bl_files.specs.ErrorFeed.{kept_row_logs, row_logs}
 use Rattle.bl_queue.specs.Rows.{last_logs}
 
 abbrev pub kept_logs : ℕ → Feed → Feed
@@ -46,3 +49,24 @@ behind_more initial feeds place room more d new is made less =
     } where
       sums : (a b : ℕ) → 10000 - b - a ≡ 10000 - (a + b)
       sums a b = omega arith
+
+-- ---- the logs that stay are the last of all
+
+kept_by : (xs ys : List Log) → drop (length xs - (10000 - length ys)) xs ++ drop (length ys - 10000) ys ≡ drop (length (xs ++ ys) - 10000) (xs ++ ys)
+kept_by xs ys =
+    elim (cases_lt 10000 (length ys)) [
+      | inl many ↦
+          ap (λ l. l ++ drop (length ys - 10000) ys) (drop_all (length xs - (10000 - length ys)) xs (omega arith))
+          ∙ sym (ap (λ n. drop n (xs ++ ys)) (let e : length (xs ++ ys) - 10000 ≡ length xs + (length ys - 10000) = omega (arith, length-append xs ys) in e)
+          ∙ sym (drop-drop (length ys - 10000) (length xs) (xs ++ ys)) ∙ ap (λ l. drop (length ys - 10000) l) (drop_at xs ys (length xs) refl))
+      | inr few ↦
+          ap (λ n. drop (length xs - (10000 - length ys)) xs ++ drop n ys) (let e : length ys - 10000 ≡ 0 = omega arith in e)
+          ∙ ap (λ n. drop n xs ++ ys) (let e : length xs - (10000 - length ys) ≡ length (xs ++ ys) - 10000 = omega (arith, length-append xs ys) in e)
+          ∙ sym (drop-append-le (length (xs ++ ys) - 10000) xs ys (omega (arith, length-append xs ys)))
+    ]
+
+pub last_are_kept : (feeds : List Feed) → row_logs (last_logs feeds) ≡ kept_row_logs feeds
+last_are_kept [] = refl
+last_are_kept (feed ∷ feeds) =
+    ap (λ l. drop (length feed.logs - (10000 - length (row_logs feeds))) feed.logs ++ l) (last_are_kept feeds)
+    ∙ kept_by feed.logs (row_logs feeds)

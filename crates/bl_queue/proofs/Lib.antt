@@ -13,3 +13,4 @@ pub mod Starts
 mod TestFiles
 mod LastLogs
 pub mod FedFeeds
+mod SettledLaws

@@ -1,9 +1,10 @@
 // Loads taken on, refused and ended.
-ghost use Rattle.std.specs.Prelude.{◌≡◌, ◌-◌, ◌≤◌, true, false, IfOk, IsSomeAnd, IsTrue, slice_get};
+ghost use Rattle.std.specs.Prelude.{◌≡◌, ◌+◌, ◌-◌, ◌<◌, ◌≤◌, ◌^◌, length, true, false, IfOk, IsSomeAnd, IsTrue, slice_get};
 ghost use Rattle.bl_queue.specs.Jobs.{front_job, has_open, is_unended, job_of};
 ghost use Rattle.bl_queue.specs.declared.job_status.JobStatus.TheVariants.{NotStarted};
 ghost use Rattle.bl_files.specs.Carried.{DifferentNames, found_names};
 ghost use Rattle.bl_files.specs.declared.plan_result.PlanResult.TheVariants.{Feeds};
+ghost use Rattle.bl_queue.specs.Rows.{MayFeed};
 ghost use Rattle.bl_queue.specs.Runs.{HasNames, HasRoom, IsOpenAt};
 ghost use Rattle.bl_queue.specs.Statuses.{is_open};
 
@@ -400,4 +401,88 @@ fn cancel(jobs: &mut Jobs, number: u32) -> bool {
     } else {
         false
     }
+}
+
+fn can_take(feeds: &[Feed], place: u32, rows: u32) -> bool
+    ensures { IsTrue result → IsSomeAnd (slice_get feeds.now place) (λ feed. (is_open feed.status ≡ true) × (feed.taken + rows < 2 ^ 48)) }
+{
+    match feeds.get(place as usize) {
+        Some(feed) => is_open(feed.status) && feed.taken < 281474976710656 - rows as u64,
+        None => false,
+    }
+}
+
+fn may_take(jobs: &Jobs, number: u32, feed: u32, rows: u32) -> bool
+    requires { 1 ≤ feed }
+    ensures { IsTrue result → IsSomeAnd (front_job jobs.now.jobs) (λ it. (it.number ≡ number) × MayFeed (feed - 1) rows it) }
+{
+    match front_of(jobs.kept().as_slice()) {
+        Some(job) => job.number == number && can_take(job.feeds.as_slice(), feed - 1, rows),
+        None => false,
+    }
+}
+
+fn are_few(duplicates: u32, logs: &List<Log>, rows: u32) -> bool
+    ensures { IsTrue result → duplicates + length logs.now ≤ rows }
+{
+    logs.len() <= rows as usize && duplicates as usize <= rows as usize - logs.len()
+}
+
+// The file of this number, counted from 1, takes rows.
+fn take(
+    jobs: &mut Jobs,
+    number: u32,
+    feed: u32,
+    rows: u32,
+    duplicates: u32,
+    logs: &List<Log>,
+) -> bool {
+    let digest = Digest { bytes: [9; 32] };
+    if feed > 0 && may_take(jobs, number, feed, rows) && are_few(duplicates, logs, rows) {
+        jobs.rows(50, number, feed, rows, digest, duplicates, logs)
+            .is_ok()
+    } else {
+        false
+    }
+}
+
+// As many logs, of records numbered from 1.
+fn many_logs(alloc: Global, number: u64) -> Result<List<Log>, NoMemory> {
+    let mut logs = List::new(alloc);
+    for i in 0..number {
+        logs.push(Log {
+            code: LogCode::OutOfRange,
+            number: i + 1,
+            column: 2,
+        })?;
+    }
+    Ok(logs)
+}
+
+#[test]
+fn rows_are_counted_and_the_last_logs_stay(rt: HostRuntime) {
+    let mut jobs = Jobs::new(rt.alloc());
+    assert!(rt; ask_with(rt.alloc(), &mut jobs, &[]) == Ok(Some(1)));
+    let plan = two_files(rt.alloc()).expect(&rt, "memory");
+    assert!(rt; start(rt.alloc(), &mut jobs, 1, &plan));
+    let one = many_logs(rt.alloc(), 1).expect(&rt, "memory");
+    assert!(rt; take(&mut jobs, 1, 1, 3, 2, &one));
+    assert!(rt; !take(&mut jobs, 1, 1, 3, 3, &one));
+    assert!(rt; feed_status(&jobs, 1, 0) == Some(FeedStatus::InProgress));
+    let many = many_logs(rt.alloc(), 6000).expect(&rt, "memory");
+    assert!(rt; take(&mut jobs, 1, 1, 7000, 0, &many));
+    assert!(rt; end_feed(&mut jobs, 1, 1, FeedEnd::Completed));
+    assert!(rt; take(&mut jobs, 1, 2, 6000, 0, &many));
+    let kept = jobs.kept();
+    let job = kept.get(0).expect(&rt, "there");
+    assert!(rt; job.latest == 50 && job.feeds.len() == 2);
+    let feed = job.feeds.get(0).expect(&rt, "there");
+    assert!(rt; feed.taken == 7003 && feed.digest.bytes[0] == 9);
+    assert!(rt; feed.counts.records == 7003 && feed.counts.duplicates == 2);
+    assert!(rt; feed.counts.datatype == 6001 && feed.counts.parsing == 0);
+    assert!(rt; feed.logs.len() == 4000);
+    let log = feed.logs.get(0).expect(&rt, "there");
+    assert!(rt; log.number == 2001);
+    let last = job.feeds.get(1).expect(&rt, "there");
+    assert!(rt; last.logs.len() == 6000);
 }

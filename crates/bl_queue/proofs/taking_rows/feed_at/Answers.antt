@@ -1,6 +1,6 @@
-use Rattle.std.proofs.Common.{◌<◌, length, arith, ap, sym, ◌∙◌, set}
+use Rattle.std.proofs.Common.{◌<◌, length, ap, sym, ◌∙◌, set}
 use Rattle.bl_files.specs.declared.feed.Feed.{Feed}
-use Rattle.bl_queue.specs.Rows.{MayTake, fed_feed, last_logs}
+use Rattle.bl_queue.specs.Rows.{fed_feed, last_logs}
 use Rattle.bl_queue.proofs.Placed.{feed_at as placed, some_within}
 use Rattle.bl_queue.proofs.taking_rows.feed_at.Goals as goal
 

@@ -1,4 +1,4 @@
-use Rattle.std.proofs.Common.{◌≡◌, ◌+◌, ◌-◌, ℕ, get_or, length, arith, sym, ap, subst, ◌∙◌}
+use Rattle.std.proofs.Common.{◌≡◌, ◌+◌, ◌-◌, ℕ, get_or, length, arith, ap, subst, ◌∙◌}
 use Rattle.bl_files.specs.declared.feed.Feed.{Feed}
 use Rattle.bl_queue.proofs.LastLogs.{IsBehind, behind_at, behind_more, kept_logs}
 use Rattle.bl_queue.proofs.taking_rows.keep_last_logs.Goals as goal
