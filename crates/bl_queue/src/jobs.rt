@@ -1,5 +1,5 @@
 // The list of jobs.
-ghost use Rattle.std.specs.Prelude.{◌≡◌, ◌+◌, true, false, [], IsSomeAnd, IfOk, IsOk, OnOk, OnErr, None, ◌≤◌, length};
+ghost use Rattle.std.specs.Prelude.{◌≡◌, ◌+◌, ◌≤◌, true, false, [], length, None, IsSomeAnd, IfOk, IsOk, OnOk, OnErr};
 ghost use Rattle.std.specs.Result.{result_err};
 ghost use Rattle.bl_queue.specs.Jobs.{AreJobs, front_job, has_open, is_unended, job_of, number_in};
 ghost use Rattle.bl_queue.specs.Checks.{refusal};
@@ -210,7 +210,8 @@ impl Jobs {
 
     /// Starts the job at the front as it was planned: it goes on with the files that were found and
     /// with those of the load before it, and ends at once where each of them has ended, or it fails.
-    /// No name was found twice, and files that would be too many are no plan of files.
+    /// No name was found twice. Where there would be more than 4,096 files it answers NoMemory: such
+    /// a plan is one of too many files.
     pub fn start(&mut self, moment: u64, job: u32, plan: &PlanResult) -> Result<(), NoMemory>
         requires front { IsSomeAnd (front_job self.old.jobs) (λ it. (it.number ≡ job) × (it.status ≡ NotStarted)) }
         requires names { HasNames plan.now }

@@ -68,8 +68,7 @@ fn go_on(alloc: Global, previous: &List<Feed>, found: &List<Found>) -> Result<Li
     }
 }
 
-/// The files of a load that goes on from another. Too many are taken for want of memory: such a plan
-/// is no plan of files.
+/// The files of a load that goes on from another. More than 4,096 are taken for want of memory.
 pub(crate) fn carried(
     alloc: Global,
     older: Option<&Job>,
