@@ -14,7 +14,7 @@ pub struct Job {
     pub submitted: u64,
     /// When it was started, or 0.
     pub started: u64,
-    /// When it last changed.
+    /// When a call last named it, or ended it.
     pub latest: u64,
     /// 1 where it began anew, one more than the previous load's where it went on with one; 0 before
     /// its start.
