@@ -1,0 +1,16 @@
+mod Fronts
+pub mod DoomedJobs
+pub mod FatedJobs
+pub mod CalledJobs
+pub mod SettledJobs
+pub mod ChangedJobs
+pub mod TrimmedJobs
+pub mod SubmittedJobs
+mod Placed
+mod EndedFeeds
+pub mod RunChanges
+pub mod Starts
+mod TestFiles
+mod LastLogs
+pub mod FedFeeds
+mod SettledLaws
