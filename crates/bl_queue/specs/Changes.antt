@@ -48,12 +48,12 @@ IsSubmitted moment id request old new =
     × IsTrimmed moment (old.jobs ++ new_job moment (old.last + 1) id request ∷ []) jobs
     × (new ≡ record { last = old.last + 1; jobs = jobs })
 
--- ---- a job ends
+-- ---- a job is changed
 
+-- the job is changed, which settles the others
+abbrev pub IsChanged : ℕ → ℕ → (Job → Job) → Kept → Kept → Type 0
+IsChanged moment number change old new = (jobs : List Job) × IsSettled moment (with_job number change old.jobs) jobs × (new ≡ record old { jobs = jobs })
+
+-- it ends
 abbrev pub ended_job : ℕ → JobStatus → Option Log → Job → Job
 ended_job moment status log job = record job { status = status; latest = moment; end_log = log }
-
--- the job has ended, which settles the others
-abbrev pub IsEnded : ℕ → ℕ → JobStatus → Option Log → Kept → Kept → Type 0
-IsEnded moment number status log old new =
-    (jobs : List Job) × IsSettled moment (with_job number (ended_job moment status log) old.jobs) jobs × (new ≡ record old { jobs = jobs })

@@ -22,12 +22,7 @@ use Rattle.bl_queue.specs.declared.job_status.JobStatus.TheVariants.{CancelledBy
 use Rattle.bl_queue.specs.Statuses.{is_failed, is_open}
 use Rattle.bl_queue.specs.Jobs.{Kept, has_open, job_of}
 use Rattle.bl_queue.specs.Previous.{previous_job}
-use Rattle.bl_queue.specs.Changes.{with_job}
-use Rattle.bl_queue.specs.Doomed.{IsSettled}
-
--- the job is changed, which settles the others
-abbrev pub IsChanged : ℕ → ℕ → (Job → Job) → Kept → Kept → Type 0
-IsChanged moment number change old new = (jobs : List Job) × IsSettled moment (with_job number change old.jobs) jobs × (new ≡ record old { jobs = jobs })
+use Rattle.bl_queue.specs.Changes.{IsChanged}
 
 -- a file that hasn't ended ends with this status
 abbrev pub open_ended : FeedStatus → Feed → Feed

@@ -8,9 +8,9 @@ ghost use Rattle.bl_queue.specs.Statuses.{has_ended};
 ghost use Rattle.bl_files.specs.Carried.{AreCarried, DifferentNames, found_names};
 ghost use Rattle.bl_files.specs.declared.feed.Feed.{Feed as FeedValue};
 ghost use Rattle.bl_queue.specs.declared.job_status.JobStatus.TheVariants.{NotStarted};
-ghost use Rattle.bl_queue.specs.Runs.{HasNames, HasRoom, IsChanged, IsOpenAt, IsRefused, IsRunning, IsStarted, cancelled_job, feeds_of, goes_on_from, job_after_feed};
+ghost use Rattle.bl_queue.specs.Runs.{HasNames, HasRoom, IsOpenAt, IsRefused, IsRunning, IsStarted, cancelled_job, feeds_of, goes_on_from, job_after_feed};
 ghost use Rattle.bl_queue.specs.Rows.{MayFeed, fed_job};
-ghost use Rattle.bl_queue.specs.Changes.{IsEnded, IsSubmitted, new_job};
+ghost use Rattle.bl_queue.specs.Changes.{IsChanged, IsSubmitted, ended_job, new_job};
 
 use crate::checking::{busy, full, too_many, unknown, used_up};
 use crate::running::{with_cancelled, with_ended, with_feed_ended};
@@ -151,7 +151,7 @@ impl Jobs {
     pub fn end(&mut self, moment: u64, job: u32, status: JobStatus, log: Option<Log>)
         requires unended { IsSomeAnd (job_of job self.old.jobs) (λ it. (is_unended it ≡ true) × (has_open it ≡ false)) }
         requires ended { has_ended status ≡ true }
-        ensures { IsEnded moment job status log self.old self.new }
+        ensures { IsChanged moment job (ended_job moment status log) self.old self.new }
     {
         let jobs = mem::replace(&mut self.jobs, List::new(self.alloc));
         self.jobs = with_ended(jobs, moment, job, status, log);
