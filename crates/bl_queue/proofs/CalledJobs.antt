@@ -9,7 +9,7 @@ use Rattle.bl_queue.specs.declared.job.Job.{Job}
 use Rattle.bl_queue.specs.declared.job_status.JobStatus.{JobStatus}
 use Rattle.bl_queue.specs.declared.job_status.JobStatus.TheVariants.{NotStarted, InQueue, InProgress, Completed, CancelledByUser, Failed, DependencyNotSatisfied}
 use Rattle.bl_queue.specs.Statuses.{has_ended, has_failed, is_in_progress, is_in_queue, is_to_start}
-use Rattle.bl_queue.specs.Jobs.{HasCounts, IsFresh, IsNumbered, IsUnfailed, front_job, has_open, is_unended, number_in, waits}
+use Rattle.bl_queue.specs.Jobs.{HasCounts, IsNumbered, IsUnfailed, front_job, has_open, is_unended, number_in, waits}
 use Rattle.bl_queue.specs.Doomed.{called_up, with_front}
 use Rattle.bl_queue.proofs.FatedJobs.{AreSteady, count_cons}
 
@@ -127,8 +127,8 @@ front_length (job ∷ jobs) = front_by (λ l. length l ≡ length (job ∷ jobs)
 
 module _ (last : ℕ) (jobs : List Job) (steady : AreSteady last jobs) where
   -- a job that waits has all that is said of one that isn't started
-  front_fresh : All (λ job. is_to_start job.status ≡ true → IsFresh job) (with_front jobs)
-  front_fresh = front_all (λ job. is_to_start job.status ≡ true → IsFresh job) (λ job is. called (λ x. is_to_start x.status ≡ true → IsFresh x) job (λ h started. let old : IsFresh job = is (queued_to_start job.status h) in record { feeds = old.feeds; started = old.started; run = old.run; previous = old.previous }) is) jobs steady.fresh
+  front_fresh : All (λ job. is_to_start job.status ≡ true → job.feeds ≡ []) (with_front jobs)
+  front_fresh = front_all (λ job. is_to_start job.status ≡ true → job.feeds ≡ []) (λ job is. called (λ x. is_to_start x.status ≡ true → x.feeds ≡ []) job (λ h started. is (queued_to_start job.status h)) is) jobs steady.fresh
 
   pub front_steady : AreSteady last (with_front jobs)
   front_steady = record {

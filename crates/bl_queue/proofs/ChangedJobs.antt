@@ -13,7 +13,7 @@ use Rattle.bl_queue.specs.declared.job.Job.{Job}
 use Rattle.bl_queue.specs.declared.job_status.JobStatus.{JobStatus}
 use Rattle.bl_queue.specs.declared.job_status.JobStatus.TheVariants.{NotStarted, InQueue, InProgress, Completed, CancelledByUser, Failed, DependencyNotSatisfied}
 use Rattle.bl_queue.specs.Statuses.{has_ended, has_failed, is_in_progress, is_to_start}
-use Rattle.bl_queue.specs.Jobs.{AreJobs, HasCounts, IsFresh, IsNumbered, IsUnfailed, Kept, front_job, has_open, is_unended, job_of, number_in, waits}
+use Rattle.bl_queue.specs.Jobs.{AreJobs, HasCounts, IsNumbered, IsUnfailed, Kept, front_job, has_open, is_unended, job_of, number_in, waits}
 use Rattle.bl_queue.specs.Changes.{ended_job, with_job}
 use Rattle.bl_queue.specs.Doomed.{IsSettled}
 use Rattle.bl_queue.proofs.DoomedJobs.{all_zip, dependency_stands}
@@ -194,7 +194,7 @@ module _ (moment number : ℕ) (change : Job → Job) (kept : Kept) (are : AreJo
     queued = omega (arith, fewer_wait kept.jobs (map changed kept.jobs) zip_waited, are.queued);
     earlier = change_all (λ job. is_unended job ≡ true → All (λ id. number_in id < job.number) job.request.dependencies) new_earlier are.earlier;
     running = change_all (λ job. has_open job ≡ is_in_progress job.status) is.running are.running;
-    fresh = change_all (λ job. is_to_start job.status ≡ true → IsFresh job) (λ h. absurd (true≢false (sym h ∙ is.begun))) are.fresh;
+    fresh = change_all (λ job. is_to_start job.status ≡ true → job.feeds ≡ []) (λ h. absurd (true≢false (sym h ∙ is.begun))) are.fresh;
     feeds = change_all (λ job. AreFeeds job.feeds) is.feeds are.feeds;
     counts = change_all (λ job. All HasCounts job.feeds) is.counts are.counts;
   }

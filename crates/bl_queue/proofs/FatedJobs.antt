@@ -10,7 +10,7 @@ use Rattle.bl_files.specs.Carried.{AreFeeds}
 use Rattle.bl_queue.specs.declared.job.Job.{Job}
 use Rattle.bl_queue.specs.declared.job_status.JobStatus.TheVariants.{InQueue}
 use Rattle.bl_queue.specs.Statuses.{has_failed, is_in_progress, is_to_start}
-use Rattle.bl_queue.specs.Jobs.{HasCounts, IsDependency, IsFresh, IsNumbered, IsUnfailed, has_open, is_unended, number_in, waits}
+use Rattle.bl_queue.specs.Jobs.{HasCounts, IsDependency, IsNumbered, IsUnfailed, has_open, is_unended, number_in, waits}
 use Rattle.bl_queue.specs.Doomed.{IsDoomed, IsFate, LeadsToFailure, unsatisfied}
 use Rattle.bl_queue.specs.Pass.{AreOrdered}
 use Rattle.bl_queue.proofs.DoomedJobs.{dependency_stands, leads, not_failed, zip_at, zip_same}
@@ -23,7 +23,7 @@ pub record AreSteady (last : ℕ) (jobs : List Job) : Type 0 where
   pub queued : count_by waits jobs ≤ 64
   pub earlier : All (λ job. is_unended job ≡ true → All (λ id. number_in id < job.number) job.request.dependencies) jobs
   pub running : All (λ job. has_open job ≡ is_in_progress job.status) jobs
-  pub fresh : All (λ job. is_to_start job.status ≡ true → IsFresh job) jobs
+  pub fresh : All (λ job. is_to_start job.status ≡ true → job.feeds ≡ []) jobs
   pub feeds : All (λ job. AreFeeds job.feeds) jobs
   pub counts : All (λ job. All HasCounts job.feeds) jobs
 
@@ -124,7 +124,7 @@ module _ (moment last : ℕ) (before : List Job) (steady : AreSteady last before
       queued = omega (arith, fewer_wait before ended (zip_waited before ended fates), steady.queued);
       earlier = fated_all (λ job. is_unended job ≡ true → All (λ id. number_in id < job.number) job.request.dependencies) (λ job kept doomed is h. is doomed.0) steady.earlier;
       running = fated_all (λ job. has_open job ≡ is_in_progress job.status) (λ job kept doomed is. is ∙ doomed_rests job kept doomed) steady.running;
-      fresh = fated_all (λ job. is_to_start job.status ≡ true → IsFresh job) (λ job kept doomed is h. absurd (true≢false (sym h))) steady.fresh;
+      fresh = fated_all (λ job. is_to_start job.status ≡ true → job.feeds ≡ []) (λ job kept doomed is h. absurd (true≢false (sym h))) steady.fresh;
       feeds = fated_all (λ job. AreFeeds job.feeds) (λ job kept doomed is. is) steady.feeds;
       counts = fated_all (λ job. All HasCounts job.feeds) (λ job kept doomed is. is) steady.counts;
     }

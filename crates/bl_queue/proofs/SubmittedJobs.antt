@@ -17,7 +17,7 @@ use Rattle.bl_queue.specs.declared.job_status.JobStatus.TheVariants.{InQueue}
 use Rattle.bl_queue.specs.declared.check_refusal.CheckRefusal.{CheckRefusal}
 use Rattle.bl_queue.specs.declared.check_refusal.CheckRefusal.TheVariants.{UnknownDependency, QueueFull}
 use Rattle.bl_queue.specs.Statuses.{has_failed, is_in_progress, is_to_start}
-use Rattle.bl_queue.specs.Jobs.{AreJobs, HasCounts, IsFresh, IsNumbered, IsUnfailed, Kept, has_open, is_unended, number_in, waits}
+use Rattle.bl_queue.specs.Jobs.{AreJobs, HasCounts, IsNumbered, IsUnfailed, Kept, has_open, is_unended, number_in, waits}
 use Rattle.bl_queue.specs.Checks.{busy, full, has_id, refusal, too_many, unknown}
 use Rattle.bl_queue.specs.Changes.{new_job}
 use Rattle.bl_queue.proofs.Fronts.{none_at}
@@ -81,7 +81,7 @@ module _ (moment id : ℕ) (request : LoadRequest) (kept : Kept) (are : AreJobs 
     queued = omega (arith, room, sum_by_push (λ (job : Job). cond (waits job) 1 0) kept.jobs new);
     earlier = All-push (λ job. is_unended job ≡ true → All (λ other. number_in other < job.number) job.request.dependencies) kept.jobs new are.earlier (λ unended. known);
     running = All-push (λ job. has_open job ≡ is_in_progress job.status) kept.jobs new are.running refl;
-    fresh = All-push (λ job. is_to_start job.status ≡ true → IsFresh job) kept.jobs new are.fresh (λ h. record { feeds = refl; started = refl; run = refl; previous = refl });
+    fresh = All-push (λ job. is_to_start job.status ≡ true → job.feeds ≡ []) kept.jobs new are.fresh (λ h. refl);
     feeds = All-push (λ job. AreFeeds job.feeds) kept.jobs new are.feeds no_feeds;
     counts = All-push (λ job. All HasCounts job.feeds) kept.jobs new are.counts (All-nil HasCounts);
   }

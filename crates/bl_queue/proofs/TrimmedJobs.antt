@@ -11,7 +11,7 @@ use Rattle.bl_files.specs.Carried.{AreFeeds}
 use Rattle.bl_queue.specs.declared.job.Job.{Job}
 use Rattle.bl_queue.specs.declared.job_status.JobStatus.TheVariants.{InQueue}
 use Rattle.bl_queue.specs.Statuses.{has_ended, has_failed, is_in_progress, is_in_queue, is_to_start}
-use Rattle.bl_queue.specs.Jobs.{AreJobs, HasCounts, IsFresh, IsNumbered, IsUnfailed, front_job, has_open, is_unended, number_in, waits}
+use Rattle.bl_queue.specs.Jobs.{AreJobs, HasCounts, IsNumbered, IsUnfailed, front_job, has_open, is_unended, number_in, waits}
 use Rattle.bl_queue.specs.Changes.{trimmed}
 use Rattle.bl_queue.proofs.FatedJobs.{AreSteady, count_cons}
 use Rattle.bl_queue.proofs.CalledJobs.{pairs_head}
@@ -62,7 +62,7 @@ module _ (last : ℕ) (jobs : List Job) (i : ℕ) (d : Job) (within : i < length
       queued = omega (arith, sum_by-remove (λ (job : Job). cond (waits job) 1 0) jobs i d within, is.steady.queued);
       earlier = all_remove (λ job. is_unended job ≡ true → All (λ id. number_in id < job.number) job.request.dependencies) jobs i is.steady.earlier;
       running = all_remove (λ job. has_open job ≡ is_in_progress job.status) jobs i is.steady.running;
-      fresh = all_remove (λ job. is_to_start job.status ≡ true → IsFresh job) jobs i is.steady.fresh;
+      fresh = all_remove (λ job. is_to_start job.status ≡ true → job.feeds ≡ []) jobs i is.steady.fresh;
       feeds = all_remove (λ job. AreFeeds job.feeds) jobs i is.steady.feeds;
       counts = all_remove (λ job. All HasCounts job.feeds) jobs i is.steady.counts;
     };

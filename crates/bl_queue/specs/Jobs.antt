@@ -52,13 +52,6 @@ pub record IsNumbered (last : ℕ) (job : Job) : Type 0 where
   pub id : number_in job.id ≡ job.number
   pub run : job.run ≤ job.number
 
--- a job that isn't started has no files, and nothing that a start sets
-pub record IsFresh (job : Job) : Type 0 where
-  pub feeds : job.feeds ≡ []
-  pub started : job.started ≡ 0
-  pub run : job.run ≡ 0
-  pub previous : job.previous ≡ 0
-
 -- a file has fewer than 2 ^ 48 records taken, and counts no more than these
 pub record HasCounts (feed : Feed) : Type 0 where
   pub taken : feed.taken < 2 ^ 48
@@ -82,6 +75,7 @@ pub record AreJobs (kept : Kept) : Type 0 where
   pub unfailed : All (λ job. is_unended job ≡ true → IsUnfailed kept.jobs job) kept.jobs
   -- just a job in progress has unended files
   pub running : All (λ job. has_open job ≡ is_in_progress job.status) kept.jobs
-  pub fresh : All (λ job. is_to_start job.status ≡ true → IsFresh job) kept.jobs
+  -- a job that isn't started has no files
+  pub fresh : All (λ job. is_to_start job.status ≡ true → job.feeds ≡ []) kept.jobs
   pub feeds : All (λ job. AreFeeds job.feeds) kept.jobs
   pub counts : All (λ job. All HasCounts job.feeds) kept.jobs
