@@ -1,14 +1,18 @@
 // Why a file of the store could not be read.
 use crate::Outside;
+use thiserror::Error;
 
 /// Why a journal, or a slot for a snapshot, gave no answer.
-#[derive(Clone, Copy, Debug, PartialEq, Eq)]
+#[derive(Clone, Copy, Debug, PartialEq, Eq, Error)]
 pub enum JournalFault {
     /// The disk failed. Its count of faults rose.
+    #[error("the disk failed")]
     StoreFault,
     /// The bytes at this place are no journal.
+    #[error("the bytes at {0} are no journal")]
     NotAJournal(u64),
     /// There was no memory for the answer.
+    #[error("out of memory")]
     NoMemory,
 }
 

@@ -1,26 +1,26 @@
 // A source in memory.
-ghost use Rattle.std.specs.Prelude.{◌≡◌, ◌≤◌, vec_len, Some, drop};
+ghost use Rattle.std.specs.Prelude.{◌≡◌, ◌≤◌, length, Some, drop};
 
 use crate::{Failed, Faults, Source, Text};
 
 /// Bytes in memory, given in pieces of at most a size.
 #[derive(Drop)]
 pub struct MemorySource {
-    bytes: Vec<u8>,
+    bytes: Text,
     at: usize,
     piece: usize,
     plan: Faults,
     faults: u64,
-    ghost within: { at ≤ vec_len bytes },
+    ghost within: { at ≤ length bytes },
 }
 
 impl MemorySource {
     pub fn new(bytes: Text, piece: usize, plan: Faults) -> MemorySource
-        ensures left { drop result.at result.bytes.items ≡ bytes }
+        ensures left { drop result.at result.bytes ≡ bytes }
         ensures faults { result.faults ≡ 0 }
     {
         MemorySource {
-            bytes: bytes.into_vec(),
+            bytes,
             at: 0,
             piece,
             plan,
@@ -30,7 +30,7 @@ impl MemorySource {
 }
 
 impl Source for MemorySource {
-    ghost left = { λ s. Some (drop s.at s.bytes.items) };
+    ghost left = { λ s. Some (drop s.at s.bytes) };
 
     ghost faults = { λ s. s.faults };
 
@@ -45,7 +45,7 @@ impl Source for MemorySource {
             .len()
             .min(self.piece.max(1))
             .min(self.bytes.len() - self.at);
-        room[..most].copy_from_slice(&self.bytes[self.at..self.at + most]);
+        room[..most].copy_from_slice(&self.bytes.as_slice()[self.at..self.at + most]);
         self.at += most;
         Ok(most)
     }

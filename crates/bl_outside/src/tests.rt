@@ -171,7 +171,7 @@ fn a_disk_reads_what_was_written(rt: HostRuntime) {
 }
 
 fn joined(alloc: Global) -> Result<Text, NoMemory> {
-    let mut whole = Text::from_vec(text(alloc, "ab")?.copy(alloc)?.into_vec());
+    let mut whole = Text::from_vec(text(alloc, "ab")?.copy(alloc)?.into_vec()?);
     whole.push(99)?;
     whole.extend(b"de".as_slice())?;
     Ok(whole)
