@@ -2,7 +2,7 @@
 use Rattle.std.specs.Prelude.{◌≡◌, ◌≢◌, ◌↔◌, ℕ, ◌≤◌, ◌<◌, ◌^◌, List, [], ◌∷◌, ◌++◌, length, nat_eq, take, drop, None, Some, IsSome}
 use Rattle.std.specs.declared.option.Option.{Option}
 use Rattle.std.specs.List.{All, Contains, IsDistinct}
-use Rattle.std.specs.Str.{IsUtf8}
+use Rattle.bl_outside.specs.Texts.{IsShortText}
 use Rattle.std.specs.FinMap.{FinMap, get}
 use Rattle.std.specs.Ordering.{nat_cmp}
 use Rattle.std.specs.Cmp.Lexicographic.{slice_cmp, pointwise}
@@ -31,11 +31,6 @@ Lists None path _ = Unit {0}
 Lists (Some files) path OneFile = IsSome (get files path)
 Lists (Some files) path Missing = (get files path ≡ None) × ¬ (HasInside files path)
 Lists (Some files) path (Names names) = (get files path ≡ None) × HasInside files path × ((name : List ℕ) → Contains names name ↔ IsNameIn files path name)
-
--- A text that can be the name of a file.
-pub record IsShortText (name : List ℕ) : Type 0 where
-  pub text : IsUtf8 name
-  pub short : length name < 2 ^ 32
 
 -- Each name can be a name, and they differ.
 pub record AreNames (names : List (List ℕ)) : Type 0 where

@@ -1,5 +1,6 @@
 pub mod Counts
 pub mod Streams
+pub mod Texts
 pub mod Folders
 pub mod Disks
 pub mod Plans

@@ -1,7 +1,8 @@
 // A real folder. It tells no content.
 ghost use Rattle.std.specs.Prelude.{◌≡◌, ◌≢◌, ◌<◌, [], IfOk, OnOk};
 ghost use Rattle.std.specs.Str.{IsUtf8};
-ghost use Rattle.bl_outside.specs.Folders.{ListsNames, AreNames, IsShortText, IsPiece};
+ghost use Rattle.bl_outside.specs.Folders.{ListsNames, AreNames, IsPiece};
+ghost use Rattle.bl_outside.specs.Texts.{IsShortText};
 
 use crate::file_disk::read_part;
 use bl_outside::{Folder, List, Listing, Outside, Piece, Text, counted};

@@ -5,7 +5,7 @@ use Rattle.std.specs.Map.Iter.{deref}
 use Rattle.std.proofs.lemmas.Map.Iter.{rest_more, rest_all}
 use Rattle.std.proofs.lemmas.List.{append-nil}
 use Rattle.std.proofs.lemmas.List.Elements.{All-push}
-use Rattle.bl_outside.specs.Folders.{IsShortText}
+use Rattle.bl_outside.specs.Texts.{IsShortText}
 use Rattle.bl_outside.proofs.Names.{distinct_texts}
 use Rattle.bl_system.proofs.real_folder.proper.Goals as goal
 

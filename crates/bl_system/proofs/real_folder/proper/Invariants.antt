@@ -1,6 +1,6 @@
 use Rattle.std.proofs.Common.{◌≡◌, ◌≢◌, ◌++◌, []}
 use Rattle.std.specs.List.{All}
-use Rattle.bl_outside.specs.Folders.{IsShortText}
+use Rattle.bl_outside.specs.Texts.{IsShortText}
 use Rattle.bl_system.proofs.real_folder.proper.Given as goal
 
 abbrev pub invariant-loop-name : goal.invariant-loop-name
