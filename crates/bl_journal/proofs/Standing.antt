@@ -52,3 +52,10 @@ module _ {D : Type 0} (of : Ghosts D) where
     λ s. record { honest = honest.1 s.honest; told = ap is_some seen ∙ s.told },
     λ s. record { honest = honest.0 s.honest; told = ap is_some (sym seen) ∙ s.told },
   )
+
+  -- so does a write behind such a call
+  pub sound_written : (old mid new : D) → of.seen mid ≡ of.seen old → (of.honest mid ↔ of.honest old) → is_some (of.seen new) ≡ is_some (of.seen mid) → (of.honest new ↔ of.honest mid) → (IsSound of old ↔ IsSound of new)
+  sound_written old mid new seen honest told again = (
+    λ s. record { honest = again.1 (honest.1 s.honest); told = told ∙ ap is_some seen ∙ s.told },
+    λ s. record { honest = honest.0 (again.0 s.honest); told = sym (told ∙ ap is_some seen) ∙ s.told },
+  )
