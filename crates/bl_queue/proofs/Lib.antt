@@ -14,3 +14,4 @@ mod LastLogs
 pub mod FedFeeds
 pub mod SettledLaws
 pub mod SteadyChanges
+mod OldestLogs

@@ -18,7 +18,7 @@ module _ (number : ℕ) (change : Job → Job) where
   others : (jobs : List Job) → All (λ job. (job.number == number) ≡ false) jobs → with_job number change jobs ≡ jobs
   others jobs apart = map_fixed changed jobs (λ k d below. ap (λ b. cond b (change (get_or jobs k d)) (get_or jobs k d)) (apart k d below))
 
-  at_place : (jobs : List Job) → AllPairs (λ a b. a.number < b.number) jobs → (i : ℕ) (d : Job) → i < length jobs → (get_or jobs i d).number ≡ number → with_job number change jobs ≡ set jobs i (change (get_or jobs i d))
+  pub at_place : (jobs : List Job) → AllPairs (λ a b. a.number < b.number) jobs → (i : ℕ) (d : Job) → i < length jobs → (get_or jobs i d).number ≡ number → with_job number change jobs ≡ set jobs i (change (get_or jobs i d))
   at_place [] up i d within is = absurd (omega arith)
   at_place (job ∷ jobs) up zero d within is =
       ap (λ b. cond b (change job) job ∷ map changed jobs) (eq-eqb job.number number is)
@@ -45,3 +45,21 @@ pub some_within : (place : ℕ) (feeds : List Feed) (P : Feed → Type 0) → Is
 some_within place [] P h = absurd h
 some_within zero (feed ∷ feeds) P h = omega arith
 some_within (suc place) (feed ∷ feeds) P h = omega (arith, some_within place feeds P h)
+
+-- an item at a place
+pub some_at : {X : Type 0} (place : ℕ) (xs : List X) (d : X) (P : X → Type 0) → place < length xs → P (get_or xs place d) → IsSomeAnd (slice_get xs place) P
+some_at place [] d P within h = absurd (omega arith)
+some_at zero (x ∷ xs) d P within h = h
+some_at (suc place) (x ∷ xs) d P within h = some_at place xs d P (omega arith) h
+
+pub some_get : {X : Type 0} (place : ℕ) (xs : List X) (d : X) (P : X → Type 0) → IsSomeAnd (slice_get xs place) P → (place < length xs) × P (get_or xs place d)
+some_get place [] d P h = absurd h
+some_get zero (x ∷ xs) d P h = (omega arith, h)
+some_get (suc place) (x ∷ xs) d P h = let rest = some_get place xs d P h in (omega (arith, rest.0), rest.1)
+
+-- the job of a number, where it was found
+pub found_there : (number : ℕ) (jobs : List Job) (place : ℕ) (P : Job → Type 0) → position (λ job. job.number == number) jobs ≡ Some place → ((job : Job) → job.number ≡ number → P job) → IsSomeAnd (slice_get jobs place) P
+found_there number [] place P h make = absurd (cc)
+found_there number (job ∷ jobs) place P h make =
+    let at = position-Some (λ (x : Job). x.number == number) (job ∷ jobs) place job h in
+    some_at place (job ∷ jobs) job P at.0 (make (get_or (job ∷ jobs) place job) (eqb-true (get_or (job ∷ jobs) place job).number number at.1))

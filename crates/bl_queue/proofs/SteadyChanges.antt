@@ -1,22 +1,15 @@
 -- A change of one job that leaves its status leaves the others settled.
-use Rattle.std.specs.Prelude.{◌≡◌, ◌<◌, ℕ, ◌==◌, Bool, true, false, not, cond, List, [], ◌∷◌, Result, Ok, Err, length, map, refl, All, Contains, IfSome, OnErr, OnOk, Some}
-use Rattle.std.proofs.Common.{sym, ap, subst, ◌∙◌, arith, get_or, suc}
-use Rattle.std.proofs.lemmas.Bool.{cond_both}
+use Rattle.std.specs.Prelude.{◌≡◌, ◌<◌, ℕ, ◌==◌, Bool, true, false, not, cond, List, [], ◌∷◌, length, map, refl, All, Contains, IfSome, Some}
+use Rattle.std.proofs.Common.{sym, ap, subst, ◌∙◌, arith, get_or}
 use Rattle.std.proofs.lemmas.List.{length-map}
 use Rattle.std.proofs.lemmas.List.Elements.{All-head, All-map, All-tail}
 use Rattle.bl_files.specs.declared.load_request.LoadRequest.{LoadRequest}
 use Rattle.bl_queue.specs.declared.job.Job.{Job}
-use Rattle.bl_queue.specs.declared.job_status.JobStatus.{JobStatus}
 use Rattle.bl_queue.specs.Statuses.{has_ended, has_failed, is_in_queue}
 use Rattle.bl_queue.specs.Jobs.{AreJobs, IsUnfailed, Kept, front_job, is_unended, job_of, waits}
 use Rattle.bl_queue.specs.Changes.{with_job}
 use Rattle.bl_queue.proofs.ChangedJobs.{IsChange, change_at, changed_steady, same_id, same_request}
 use Rattle.bl_queue.proofs.FatedJobs.{AreSteady}
-
--- a list that is one thing where a call went well, and another where it didn't
-pub either_way : {E : Type 0} (result : Result (Unit {0}) E) (l a b : List Job) (P : List Job → Type 0) → OnOk result (l ≡ a) → OnErr result (l ≡ b) → P a → P b → P l
-either_way (Ok x) l a b P ok err one two = subst P (sym ok) one
-either_way (Err e) l a b P ok err one two = subst P (sym err) two
 
 -- the first unended job stays the first
 front_mapped : (f : Job → Job) (jobs : List Job) → All (λ job. (f job).status ≡ job.status) jobs → IfSome (front_job jobs) (λ job. waits job ≡ false) → IfSome (front_job (map f jobs)) (λ job. waits job ≡ false)

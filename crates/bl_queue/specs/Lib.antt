@@ -8,3 +8,4 @@ pub mod Changes
 pub mod Pass
 pub mod Runs
 pub mod Rows
+pub mod Taking

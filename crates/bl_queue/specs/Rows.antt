@@ -58,6 +58,11 @@ abbrev pub last_logs : List Feed → List Feed
 last_logs [] = []
 last_logs (feed ∷ feeds) = record feed { logs = drop (length feed.logs - (most_logs - length (row_logs feeds))) feed.logs } ∷ last_logs feeds
 
+-- without the first logs of the files, so many of them
+abbrev pub without_first : ℕ → List Feed → List Feed
+without_first number [] = []
+without_first number (feed ∷ feeds) = record feed { logs = drop number feed.logs } ∷ without_first (number - length feed.logs) feeds
+
 abbrev pub fed_job : ℕ → ℕ → ℕ → Digest → ℕ → List Log → Job → Job
 fed_job moment place rows digest duplicates logs job =
     record job { latest = moment; feeds = last_logs (with_feed place (fed_feed rows digest duplicates logs) job.feeds) }

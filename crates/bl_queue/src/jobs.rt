@@ -61,6 +61,7 @@ use crate::settling::with_settled;
 use crate::starting::{
     carried, fits_in, goes_on_from, number_of, run_after, with_refused, with_running,
 };
+use crate::taking::Taking;
 use crate::taking_rows::{Taken, with_rows};
 use crate::{CheckRefusal, Job, JobStatus};
 use bl_files::{FeedEnd, Found, LoadRequest, Log, PlanResult};
@@ -83,16 +84,19 @@ pub struct Jobs {
     alloc: Global,
     last: u32,
     jobs: List<Job>,
+    // The job whose rows were taken last, as long as nothing else befell the list.
+    taking: Option<Taking>,
 }
 
 impl Model for Jobs {
-    ghost use Rattle.bl_queue.specs.Jobs.{AreJobs, Kept};
+    ghost use Rattle.bl_queue.specs.Jobs.{Kept};
+    ghost use Rattle.bl_queue.specs.Taking.{AreKept};
 
     ghost Value = { Kept };
 
     ghost view = { λ it. record { last = it.last; jobs = it.jobs } };
 
-    ghost invariant = { λ it. AreJobs (record { last = it.last; jobs = it.jobs }) };
+    ghost invariant = { λ it. AreKept (record { last = it.last; jobs = it.jobs }) it.taking };
 }
 
 impl Jobs {
@@ -104,6 +108,7 @@ impl Jobs {
             alloc,
             last: 0,
             jobs: List::new(alloc),
+            taking: None,
         }
     }
 
@@ -112,7 +117,12 @@ impl Jobs {
         requires { AreJobs (record { last = last; jobs = jobs }) }
         ensures { result ≡ record { last = last; jobs = jobs } }
     {
-        Jobs { alloc, last, jobs }
+        Jobs {
+            alloc,
+            last,
+            jobs,
+            taking: None,
+        }
     }
 
     /// The kept jobs by number.
@@ -282,6 +292,7 @@ impl Jobs {
             .push(new_job(self.alloc, moment, number, id, request))?;
         let jobs = mem::replace(&mut self.jobs, List::new(self.alloc));
         self.jobs = with_settled(jobs, moment);
+        self.taking = None;
         self.last = number;
         Ok(number)
     }
@@ -296,6 +307,7 @@ impl Jobs {
     {
         let jobs = mem::replace(&mut self.jobs, List::new(self.alloc));
         self.jobs = with_ended(jobs, moment, job, status, log);
+        self.taking = None;
     }
 
     /// Cancels a job, and ends each of its files that hasn't ended. What can't come to its turn any
@@ -306,6 +318,7 @@ impl Jobs {
     {
         let jobs = mem::replace(&mut self.jobs, List::new(self.alloc));
         self.jobs = with_cancelled(self.alloc, jobs, moment, job);
+        self.taking = None;
     }
 
     /// Takes rows of a file of the job at the front, counted from 1: so many more of its records,
@@ -340,9 +353,19 @@ impl Jobs {
         };
         let new = logs.as_slice();
         let jobs = mem::replace(&mut self.jobs, List::new(self.alloc));
-        let (jobs, done) = with_rows(self.alloc, jobs, moment, job, place, taken, new);
+        let (jobs, done) = with_rows(
+            self.alloc,
+            jobs,
+            self.taking,
+            moment,
+            job,
+            place,
+            taken,
+            new,
+        );
         self.jobs = jobs;
-        done
+        self.taking = done?;
+        Ok(())
     }
 
     /// Ends a file of the job at the front, counted from 1, and where that stops the job all
@@ -357,6 +380,7 @@ impl Jobs {
         let place = feed as usize - 1;
         let jobs = mem::replace(&mut self.jobs, List::new(self.alloc));
         self.jobs = with_feed_ended(self.alloc, jobs, moment, job, place, end);
+        self.taking = None;
     }
 
     /// Starts the job at the front as it was planned: it goes on with the files that were found
@@ -396,6 +420,7 @@ impl Jobs {
         let feeds = carried(self.alloc, older, found)?;
         let jobs = mem::replace(&mut self.jobs, List::new(self.alloc));
         self.jobs = with_running(jobs, moment, job, run, previous, feeds);
+        self.taking = None;
         Ok(())
     }
 
@@ -411,6 +436,7 @@ impl Jobs {
         let previous = number_of(older);
         let jobs = mem::replace(&mut self.jobs, List::new(self.alloc));
         self.jobs = with_refused(jobs, moment, job, run, previous, code);
+        self.taking = None;
         Ok(())
     }
 }

@@ -4,14 +4,15 @@
 //! time; the others wait behind it. [`Jobs::check`] says whether a load is taken on, and
 //! [`Jobs::submit`] takes it on. [`Jobs::start`], [`Jobs::rows`] and [`Jobs::end_feed`] are what
 //! befalls the job at the front, and [`Jobs::cancel`] and [`Jobs::end`] end any; whether they may
-//! is said by a call of their own. With a job that ends other than completed ends each that depends on
-//! it, at one or more removes. [`Jobs::front`] is the job whose turn it is, and [`Jobs::previous`]
-//! the load that one goes on with.
+//! is said by a call of its own for each. With a job that ends other than completed ends each that
+//! depends on it, at one or more removes. [`Jobs::front`] is the job whose turn it is, and
+//! [`Jobs::previous`] the load that one goes on with.
 //!
 //! Words of the contracts: `specs/Jobs` (what the list always is), `specs/Limits`,
-//! `specs/Statuses`, `specs/Checks` (why a load is refused), `specs/Previous` (the front, and the load before),
-//! `specs/Doomed` (which jobs end with others), `specs/Changes` (loads taken on and ended),
-//! `specs/Runs` (starts, ends of files, cancels), `specs/Rows` (rows taken).
+//! `specs/Statuses`, `specs/Checks` (why a load is refused), `specs/Previous` (the front, and the
+//! load before), `specs/Doomed` (which jobs end with others), `specs/Changes` (loads taken on and
+//! ended), `specs/Runs` (starts, ends of files, cancels), `specs/Rows` (rows taken),
+//! `specs/Taking` (what is kept so that a batch costs no more than its own logs).
 //! This crate stands on `bl_files`, `bl_value` and `bl_outside`.
 #![tactic(auto)]
 
@@ -27,6 +28,7 @@ mod running;
 mod searching;
 mod settling;
 mod starting;
+mod taking;
 mod taking_rows;
 
 pub use check_refusal::CheckRefusal;

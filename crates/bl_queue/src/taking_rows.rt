@@ -11,12 +11,16 @@ ghost use Rattle.std.specs.Prelude.{
   slice_get,
   All,
   AllPairs,
+  IfOk,
+  IfSome,
   IsSomeAnd,
   OnErr,
   OnOk,
 };
 ghost use Rattle.bl_files.specs.Codes.{class_of};
+ghost use Rattle.bl_files.specs.ErrorFeed.{row_logs};
 ghost use Rattle.bl_queue.specs.Limits.{record_limit};
+ghost use Rattle.bl_queue.specs.Taking.{HaveLogs, IsStanding, IsTaking};
 ghost use Rattle.bl_queue.specs.Changes.{with_job};
 ghost use Rattle.bl_queue.specs.Runs.{with_feed};
 ghost use Rattle.bl_queue.specs.Rows.{
@@ -28,10 +32,11 @@ ghost use Rattle.bl_queue.specs.Rows.{
   is_insert,
   is_parsing,
   last_logs,
+  without_first,
 };
 
 use crate::Job;
-use crate::running::place_of;
+use crate::taking::{Standing, Taking, standing_of};
 use bl_files::{Counts, ErrorClass, Feed, FeedStatus, Log, MOST_LOGS, class_of};
 use bl_outside::{Digest, List, NoMemory};
 use bl_value::LogCode;
@@ -132,26 +137,75 @@ fn keep_last(feed: &mut Feed, room: usize) -> usize
     room.saturating_sub(number)
 }
 
-fn keep_last_logs(feeds: &mut [Feed])
-    ensures { feeds.new ≡ last_logs feeds.old }
+// Keeps the last logs of all files, and answers how many those are.
+fn keep_last_logs(feeds: &mut [Feed]) -> usize
+    ensures last { feeds.new ≡ last_logs feeds.old }
+    ensures logs { HaveLogs feeds.new result }
 {
     let mut room = MOST_LOGS;
     for place in (0..feeds.len()).rev() {
         room = keep_last(&mut feeds[place], room);
     }
+    MOST_LOGS - room
 }
 
-fn feed_at(feeds: &mut [Feed], place: usize, taken: Taken, logs: &[Log]) -> Result<(), NoMemory>
-    requires { IsSomeAnd (slice_get feeds.old place) (λ feed.
+// Drops the first logs of a file, and answers how many of so many are left to be dropped.
+fn drop_logs(feed: &mut Feed, number: usize) -> usize
+    ensures feed { feed.new ≡ record feed.old { logs = drop number feed.old.logs } }
+    ensures left { result ≡ number - length feed.old.logs }
+{
+    let all = feed.logs.len();
+    feed.logs.drop_front(number.min(all));
+    number.saturating_sub(all)
+}
+
+fn drop_first_logs(feeds: &mut [Feed], number: usize)
+    ensures { feeds.new ≡ without_first number feeds.old }
+{
+    let mut left = number;
+    for feed in feeds.iter_mut() {
+        if left == 0 {
+            return;
+        }
+        left = drop_logs(feed, left);
+    }
+}
+
+// The same as `keep_last_logs`, where the number of logs is known: no file is looked at but those
+// whose logs go, and the ones before them.
+fn keep_last_of(feeds: &mut [Feed], number: usize) -> usize
+    requires { length (row_logs feeds.old) ≡ number }
+    ensures last { feeds.new ≡ last_logs feeds.old }
+    ensures logs { HaveLogs feeds.new result }
+{
+    if number <= MOST_LOGS {
+        return number;
+    }
+    drop_first_logs(feeds, number - MOST_LOGS);
+    MOST_LOGS
+}
+
+fn feed_at(
+    feeds: &mut [Feed],
+    place: usize,
+    taken: Taken,
+    logs: &[Log],
+    known: Option<usize>,
+) -> Result<usize, NoMemory>
+    requires may { IsSomeAnd (slice_get feeds.old place) (λ feed.
         MayTake taken.rows taken.duplicates logs.now feed) }
+    requires known { IfSome known (HaveLogs feeds.old) }
     ensures ok { OnOk result (feeds.new
         ≡ last_logs (with_feed place
         (fed_feed taken.rows taken.digest taken.duplicates logs.now) feeds.old)) }
+    ensures logs { IfOk result (HaveLogs feeds.new) }
     ensures err { OnErr result (feeds.new ≡ feeds.old) }
 {
     feed_one(&mut feeds[place], taken, logs)?;
-    keep_last_logs(feeds);
-    Ok(())
+    match known {
+        Some(number) => Ok(keep_last_of(feeds, number + logs.len())),
+        None => Ok(keep_last_logs(feeds)),
+    }
 }
 
 fn feed_job(
@@ -161,42 +215,81 @@ fn feed_job(
     place: usize,
     taken: Taken,
     logs: &[Log],
-) -> Result<(), NoMemory>
-    requires { IsSomeAnd (slice_get job.old.feeds place) (λ feed.
+    known: Option<usize>,
+) -> Result<usize, NoMemory>
+    requires may { IsSomeAnd (slice_get job.old.feeds place) (λ feed.
         MayTake taken.rows taken.duplicates logs.now feed) }
+    requires known { IfSome known (HaveLogs job.old.feeds) }
     ensures ok { OnOk result (job.new
         ≡ fed_job moment place taken.rows taken.digest taken.duplicates logs.now job.old) }
+    ensures logs { IfOk result (HaveLogs job.new.feeds) }
     ensures err { OnErr result (job.new ≡ job.old) }
 {
     let mut feeds = mem::replace(&mut job.feeds, List::new(alloc)).into_vec();
-    let done = feed_at(&mut feeds, place, taken, logs);
+    let kept = feed_at(&mut feeds, place, taken, logs, known);
     job.feeds = List::from_vec(feeds);
-    done?;
+    let kept = kept?;
     job.latest = moment;
-    Ok(())
+    Ok(kept)
 }
 
 fn feed_one_job(
     alloc: Global,
     jobs: &mut [Job],
+    standing: Standing,
     moment: u64,
     number: u32,
     place: usize,
     taken: Taken,
     logs: &[Log],
-) -> Result<(), NoMemory>
+) -> Result<Taking, NoMemory>
     requires rising { AllPairs (λ a b. a.number < b.number) jobs.old }
+    requires standing { IsStanding jobs.old number standing }
     requires may { All (λ job. job.number ≡ number
         → IsSomeAnd (slice_get job.feeds place) (λ feed.
         MayTake taken.rows taken.duplicates logs.now feed)) jobs.old }
     ensures ok { OnOk result (jobs.new
         ≡ with_job number
         (fed_job moment place taken.rows taken.digest taken.duplicates logs.now) jobs.old) }
+    ensures taking { IfOk result (IsTaking jobs.new) }
     ensures err { OnErr result (jobs.new ≡ jobs.old) }
 {
-    match place_of(jobs, number) {
-        Some(found) => feed_job(alloc, &mut jobs[found], moment, place, taken, logs),
-        None => Ok(()),
+    let job = &mut jobs[standing.place];
+    let kept = feed_job(alloc, job, moment, place, taken, logs, standing.logs)?;
+    Ok(Taking {
+        number,
+        place: standing.place,
+        logs: kept,
+    })
+}
+
+fn feed_found(
+    alloc: Global,
+    jobs: &mut [Job],
+    taking: Option<Taking>,
+    moment: u64,
+    number: u32,
+    place: usize,
+    taken: Taken,
+    logs: &[Log],
+) -> Result<Option<Taking>, NoMemory>
+    requires rising { AllPairs (λ a b. a.number < b.number) jobs.old }
+    requires taking { IfSome taking (IsTaking jobs.old) }
+    requires may { All (λ job. job.number ≡ number
+        → IsSomeAnd (slice_get job.feeds place) (λ feed.
+        MayTake taken.rows taken.duplicates logs.now feed)) jobs.old }
+    ensures ok { OnOk result (jobs.new
+        ≡ with_job number
+        (fed_job moment place taken.rows taken.digest taken.duplicates logs.now) jobs.old) }
+    ensures taking { IfOk result (λ taking. IfSome taking (IsTaking jobs.new)) }
+    ensures err { OnErr result (jobs.new ≡ jobs.old) }
+{
+    match standing_of(jobs, taking, number) {
+        Some(standing) => {
+            let taking = feed_one_job(alloc, jobs, standing, moment, number, place, taken, logs)?;
+            Ok(Some(taking))
+        }
+        None => Ok(None),
     }
 }
 
@@ -205,21 +298,24 @@ fn feed_one_job(
 pub fn with_rows(
     alloc: Global,
     jobs: List<Job>,
+    taking: Option<Taking>,
     moment: u64,
     number: u32,
     place: usize,
     taken: Taken,
     logs: &[Log],
-) -> (List<Job>, Result<(), NoMemory>)
+) -> (List<Job>, Result<Option<Taking>, NoMemory>)
     requires rising { AllPairs (λ a b. a.number < b.number) jobs }
+    requires taking { IfSome taking (IsTaking jobs) }
     requires may { All (λ job. job.number ≡ number
         → IsSomeAnd (slice_get job.feeds place) (λ feed.
         MayTake taken.rows taken.duplicates logs.now feed)) jobs }
     ensures ok { OnOk result.1 (result.0 ≡ with_job number
         (fed_job moment place taken.rows taken.digest taken.duplicates logs.now) jobs) }
+    ensures taking { IfOk result.1 (λ taking. IfSome taking (IsTaking result.0)) }
     ensures err { OnErr result.1 (result.0 ≡ jobs) }
 {
     let mut jobs = jobs.into_vec();
-    let done = feed_one_job(alloc, &mut jobs, moment, number, place, taken, logs);
+    let done = feed_found(alloc, &mut jobs, taking, moment, number, place, taken, logs);
     (List::from_vec(jobs), done)
 }

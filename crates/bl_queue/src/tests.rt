@@ -372,6 +372,14 @@ fn rows_are_counted_and_the_last_logs_stay(rt: HostRuntime) {
     assert!(rt; log.number == 2001);
     let last = job.feeds.get(1).expect(&rt, "there");
     assert!(rt; last.logs.len() == 6000);
+    assert!(rt; take(&mut jobs, 1, 2, 1, 0, &one));
+    let job = jobs.job(1).expect(&rt, "there");
+    let feed = job.feeds.get(0).expect(&rt, "there");
+    assert!(rt; feed.logs.len() == 3999);
+    let log = feed.logs.get(0).expect(&rt, "there");
+    assert!(rt; log.number == 2002);
+    let last = job.feeds.get(1).expect(&rt, "there");
+    assert!(rt; last.logs.len() == 6001);
 }
 
 // A job of the files a and b of this source has started, and stops at errors where it is to.

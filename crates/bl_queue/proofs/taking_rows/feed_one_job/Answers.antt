@@ -1,30 +1,23 @@
-use Rattle.std.proofs.Common.{◌==◌, ap, sym, ◌∙◌, set, get_or}
-use Rattle.std.proofs.lemmas.Bool.{eqb-true}
-use Rattle.std.proofs.lemmas.List.{set-get_or}
-use Rattle.std.proofs.lemmas.Result.{on_err_weaker, on_ok_weaker}
-use Rattle.std.proofs.lemmas.List.Quantifiers.{position-Some}
+use Rattle.std.proofs.Common.{◌≡◌, get_or-set_same, length-set, ap, arith, subst, sym, ◌∙◌, set}
 use Rattle.bl_queue.specs.declared.job.Job.{Job}
 use Rattle.bl_queue.specs.Rows.{fed_job}
-use Rattle.bl_queue.proofs.Placed.{changed_at, changed_none}
+use Rattle.bl_queue.specs.Taking.{HaveLogs}
+use Rattle.bl_queue.proofs.Placed.{at_place, some_at, some_get}
 use Rattle.bl_queue.proofs.taking_rows.feed_one_job.Goals as goal
 
-pub returns-in-Some-clause-ok : goal.returns-in-Some-clause-ok
-returns-in-Some-clause-ok c =
-    on_ok_weaker c.feed_job.result
-    (λ made. ap (λ job. set c.args.jobs.now c.in-Some.found job) made
-    ∙ sym (changed_at c.args.number (fed_job c.args.moment c.args.place c.args.taken.rows c.args.taken.digest c.args.taken.duplicates c.args.logs.now) c.args.jobs.now c.requires.rising c.in-Some.found c.index-jobs-found.result (sym c.in-Some.ensures)))
-    c.feed_job.ensures.ok
+pub returns-clause-ok : goal.returns-clause-ok
+returns-clause-ok c =
+    let d = c.index-jobs-standing.result in
+    let there = some_get c.args.standing.place c.args.jobs.now d _ c.requires.standing in
+    ap (λ job. set c.args.jobs.now c.args.standing.place job) c.in_ok-kept.ensures.ok
+    ∙ sym (at_place c.args.number (fed_job c.args.moment c.args.place c.args.taken.rows c.args.taken.digest c.args.taken.duplicates c.args.logs.now) c.args.jobs.now c.requires.rising c.args.standing.place d there.0 there.1.0)
 
-pub returns-in-Some-clause-err : goal.returns-in-Some-clause-err
-returns-in-Some-clause-err c =
-    on_err_weaker c.feed_job.result
-    (λ left. ap (λ job. set c.args.jobs.now c.in-Some.found job) left ∙ set-get_or c.args.jobs.now c.in-Some.found c.index-jobs-found.result)
-    c.feed_job.ensures.err
-
-pub returns-in-None-clause-ok : goal.returns-in-None-clause-ok
-returns-in-None-clause-ok c = sym (changed_none c.args.number (fed_job c.args.moment c.args.place c.args.taken.rows c.args.taken.digest c.args.taken.duplicates c.args.logs.now) c.args.jobs.now (sym c.in-None.ensures))
-
-pub feed_job-requires : goal.feed_job-requires
-feed_job-requires c =
-    let at = position-Some (λ (job : Job). job.number == c.args.number) c.args.jobs.now c.in-Some.found c.index-jobs-found.result (sym c.in-Some.ensures) in
-    c.requires.may c.in-Some.found c.index-jobs-found.result at.0 (eqb-true (get_or c.args.jobs.now c.in-Some.found c.index-jobs-found.result).number c.args.number at.1)
+pub returns-clause-taking : goal.returns-clause-taking
+returns-clause-taking c =
+    let d = c.index-jobs-standing.result in
+    let place = c.args.standing.place in
+    let new = c.feed_job.new.job in
+    let there = some_get place c.args.jobs.now d _ c.requires.standing in
+    some_at place (set c.args.jobs.now place new) d (λ job. (job.number ≡ c.args.number) × HaveLogs job.feeds c.in_ok-kept.kept) (omega (arith, length-set c.args.jobs.now place new, there.0))
+    (subst (λ (job : Job). (job.number ≡ c.args.number) × HaveLogs job.feeds c.in_ok-kept.kept) (sym (get_or-set_same c.args.jobs.now place new d there.0))
+    (ap (λ (job : Job). job.number) c.in_ok-kept.ensures.ok ∙ there.1.0, c.in_ok-kept.ensures.logs))

@@ -14,7 +14,7 @@ pub fits_in-requires-clause-previous : goal.fits_in-requires-clause-previous
 fits_in-requires-clause-previous c =
     let kept : Kept = record { last = c.self.inside.last; jobs = c.self.inside.jobs } in
     let from = c.goes_on_from.ensures ∙ ap (λ l. goes_on_from l c.args.job) c.as_slice.ensures in
-    subst (λ (o : Option Job). AreFeeds (feeds_of o)) (sym from) (feeds_fit c.args.job (goes_on_from kept.jobs c.args.job) (older kept c.self.invariant c.args.job)).0
+    subst (λ (o : Option Job). AreFeeds (feeds_of o)) (sym from) (feeds_fit c.args.job (goes_on_from kept.jobs c.args.job) (older kept c.self.invariant.are c.args.job)).0
 
 pub returns-in-Feeds : goal.returns-in-Feeds
 returns-in-Feeds c =

@@ -20,13 +20,13 @@ run_after-run-requires c =
     let kept : Kept = record { last = c.self.inside.last; jobs = c.self.inside.jobs } in
     let from : option_copied c.goes_on_from-older.result ≡ goes_on_from kept.jobs c.args.job = c.goes_on_from-older.ensures ∙ ap (λ l. goes_on_from l c.args.job) c.as_slice.ensures in
     subst (λ (o : Option Job). IfSome o (λ it. it.run + 1 < 2 ^ 32)) (sym from)
-    (some_weaker (goes_on_from kept.jobs c.args.job) (λ it. IsOlder c.args.job it) (λ it. it.run + 1 < 2 ^ 32) (λ it h. omega (arith, h.run, c.ranges.job.fits)) (older kept c.self.invariant c.args.job))
+    (some_weaker (goes_on_from kept.jobs c.args.job) (λ it. IsOlder c.args.job it) (λ it. it.run + 1 < 2 ^ 32) (λ it h. omega (arith, h.run, c.ranges.job.fits)) (older kept c.self.invariant.are c.args.job))
 
 pub carried-requires-clause-previous : goal.carried-requires-clause-previous
 carried-requires-clause-previous c =
     let kept : Kept = record { last = c.self.inside.last; jobs = c.self.inside.jobs } in
     let from : option_copied c.goes_on_from-older.result ≡ goes_on_from kept.jobs c.args.job = c.goes_on_from-older.ensures ∙ ap (λ l. goes_on_from l c.args.job) c.as_slice.ensures in
-    subst (λ (o : Option Job). AreFeeds (feeds_of o)) (sym from) (feeds_fit c.args.job (goes_on_from kept.jobs c.args.job) (older kept c.self.invariant c.args.job)).0
+    subst (λ (o : Option Job). AreFeeds (feeds_of o)) (sym from) (feeds_fit c.args.job (goes_on_from kept.jobs c.args.job) (older kept c.self.invariant.are c.args.job)).0
 
 pub carried-requires-clause-room : goal.carried-requires-clause-room
 carried-requires-clause-room c =
@@ -39,22 +39,25 @@ pub with_running-requires-clause-ordered : goal.with_running-requires-clause-ord
 with_running-requires-clause-ordered c =
     let kept : Kept = record { last = c.self.inside.last; jobs = c.self.inside.jobs } in
     let one = some_and (front_job kept.jobs) (λ it. (it.number ≡ c.args.job) × (it.status ≡ NotStarted)) (subst (λ (k : Kept). IsSomeAnd (front_job k.jobs) (λ it. (it.number ≡ c.args.job) × (it.status ≡ NotStarted))) (sym c.self.view_is) c.requires.front) in
-    let found = ap (λ n. job_of n kept.jobs) (sym one.2.0) ∙ front_found kept.jobs one.0 c.self.invariant.rising one.1 in
+    let found = ap (λ n. job_of n kept.jobs) (sym one.2.0) ∙ front_found kept.jobs one.0 c.self.invariant.are.rising one.1 in
     let from : option_copied c.goes_on_from-older.result ≡ goes_on_from kept.jobs c.args.job = c.goes_on_from-older.ensures ∙ ap (λ l. goes_on_from l c.args.job) c.as_slice.ensures in
-    let few : c.run_after-run.result ≤ one.0.number = subst (λ n. n ≤ one.0.number) (sym (c.run_after-run.ensures ∙ ap run_after from)) (run_before c.args.moment kept c.self.invariant one.0 one.1 c.args.job one.2.0) in
-    let counts = all_counts (feeds_of (goes_on_from kept.jobs c.args.job)) c.args.found.now c.in_ok-feeds.feeds (feeds_fit c.args.job (goes_on_from kept.jobs c.args.job) (older kept c.self.invariant c.args.job)).1 c.requires.codes (subst (λ (o : Option Job). AreCarried (feeds_of o) c.args.found.now c.in_ok-feeds.feeds) from c.in_ok-feeds.ensures.carried) in
-    let change = run_change c.args.moment kept c.self.invariant one.0 one.1 c.run_after-run.result c.number_of-previous.result c.in_ok-feeds.feeds few c.in_ok-feeds.ensures.feeds counts in
+    let few : c.run_after-run.result ≤ one.0.number = subst (λ n. n ≤ one.0.number) (sym (c.run_after-run.ensures ∙ ap run_after from)) (run_before c.args.moment kept c.self.invariant.are one.0 one.1 c.args.job one.2.0) in
+    let counts = all_counts (feeds_of (goes_on_from kept.jobs c.args.job)) c.args.found.now c.in_ok-feeds.feeds (feeds_fit c.args.job (goes_on_from kept.jobs c.args.job) (older kept c.self.invariant.are c.args.job)).1 c.requires.codes (subst (λ (o : Option Job). AreCarried (feeds_of o) c.args.found.now c.in_ok-feeds.feeds) from c.in_ok-feeds.ensures.carried) in
+    let change = run_change c.args.moment kept c.self.invariant.are one.0 one.1 c.run_after-run.result c.number_of-previous.result c.in_ok-feeds.feeds few c.in_ok-feeds.ensures.feeds counts in
     subst (λ l. AreOrdered (with_job c.args.job (running_job c.args.moment c.run_after-run.result c.number_of-previous.result c.in_ok-feeds.feeds) l)) (sym c.replace-jobs.ensures.value)
-    (ordered kept.last _ (changed_steady c.args.moment c.args.job (running_job c.args.moment c.run_after-run.result c.number_of-previous.result c.in_ok-feeds.feeds) kept c.self.invariant one.0 found (front_in kept.jobs one.0 one.1).1 change))
+    (ordered kept.last _ (changed_steady c.args.moment c.args.job (running_job c.args.moment c.run_after-run.result c.number_of-previous.result c.in_ok-feeds.feeds) kept c.self.invariant.are one.0 found (front_in kept.jobs one.0 one.1).1 change))
 
 pub invariant_of-self : goal.invariant_of-self
 invariant_of-self c =
     let kept : Kept = record { last = c.self.inside.last; jobs = c.self.inside.jobs } in
     let one = some_and (front_job kept.jobs) (λ it. (it.number ≡ c.args.job) × (it.status ≡ NotStarted)) (subst (λ (k : Kept). IsSomeAnd (front_job k.jobs) (λ it. (it.number ≡ c.args.job) × (it.status ≡ NotStarted))) (sym c.self.view_is) c.requires.front) in
-    let found = ap (λ n. job_of n kept.jobs) (sym one.2.0) ∙ front_found kept.jobs one.0 c.self.invariant.rising one.1 in
+    let found = ap (λ n. job_of n kept.jobs) (sym one.2.0) ∙ front_found kept.jobs one.0 c.self.invariant.are.rising one.1 in
     let from : option_copied c.goes_on_from-older.result ≡ goes_on_from kept.jobs c.args.job = c.goes_on_from-older.ensures ∙ ap (λ l. goes_on_from l c.args.job) c.as_slice.ensures in
-    let few : c.run_after-run.result ≤ one.0.number = subst (λ n. n ≤ one.0.number) (sym (c.run_after-run.ensures ∙ ap run_after from)) (run_before c.args.moment kept c.self.invariant one.0 one.1 c.args.job one.2.0) in
-    let counts = all_counts (feeds_of (goes_on_from kept.jobs c.args.job)) c.args.found.now c.in_ok-feeds.feeds (feeds_fit c.args.job (goes_on_from kept.jobs c.args.job) (older kept c.self.invariant c.args.job)).1 c.requires.codes (subst (λ (o : Option Job). AreCarried (feeds_of o) c.args.found.now c.in_ok-feeds.feeds) from c.in_ok-feeds.ensures.carried) in
-    let change = run_change c.args.moment kept c.self.invariant one.0 one.1 c.run_after-run.result c.number_of-previous.result c.in_ok-feeds.feeds few c.in_ok-feeds.ensures.feeds counts in
-    changed_jobs c.args.moment c.args.job (running_job c.args.moment c.run_after-run.result c.number_of-previous.result c.in_ok-feeds.feeds) kept c.self.invariant one.0 found (front_in kept.jobs one.0 one.1).1 change c.with_running.result
-    (subst (λ l. IsSettled c.args.moment (with_job c.args.job (running_job c.args.moment c.run_after-run.result c.number_of-previous.result c.in_ok-feeds.feeds) l) c.with_running.result) c.replace-jobs.ensures.value c.with_running.ensures)
+    let few : c.run_after-run.result ≤ one.0.number = subst (λ n. n ≤ one.0.number) (sym (c.run_after-run.ensures ∙ ap run_after from)) (run_before c.args.moment kept c.self.invariant.are one.0 one.1 c.args.job one.2.0) in
+    let counts = all_counts (feeds_of (goes_on_from kept.jobs c.args.job)) c.args.found.now c.in_ok-feeds.feeds (feeds_fit c.args.job (goes_on_from kept.jobs c.args.job) (older kept c.self.invariant.are c.args.job)).1 c.requires.codes (subst (λ (o : Option Job). AreCarried (feeds_of o) c.args.found.now c.in_ok-feeds.feeds) from c.in_ok-feeds.ensures.carried) in
+    let change = run_change c.args.moment kept c.self.invariant.are one.0 one.1 c.run_after-run.result c.number_of-previous.result c.in_ok-feeds.feeds few c.in_ok-feeds.ensures.feeds counts in
+    record {
+      are = changed_jobs c.args.moment c.args.job (running_job c.args.moment c.run_after-run.result c.number_of-previous.result c.in_ok-feeds.feeds) kept c.self.invariant.are one.0 found (front_in kept.jobs one.0 one.1).1 change c.with_running.result
+          (subst (λ l. IsSettled c.args.moment (with_job c.args.job (running_job c.args.moment c.run_after-run.result c.number_of-previous.result c.in_ok-feeds.feeds) l) c.with_running.result) c.replace-jobs.ensures.value c.with_running.ensures);
+      known = tt;
+    }
