@@ -6,7 +6,8 @@ use Rattle.std.proofs.lemmas.List.{append-nil, nil_from_length}
 use Rattle.bl_outside.specs.declared.digest.Digest.{Digest}
 use Rattle.bl_value.specs.declared.log_code.LogCode.{LogCode}
 use Rattle.bl_value.specs.declared.change.Change.{Change}
-use Rattle.bl_value.specs.Valid.{IsShortText, IsChange}
+use Rattle.bl_outside.specs.Texts.{IsShortText}
+use Rattle.bl_value.specs.Valid.{IsChange}
 use Rattle.bl_files.specs.Sources.{is_kept_source}
 use Rattle.bl_files.specs.declared.log.Log.{Log}
 use Rattle.bl_files.specs.declared.feed_kind.FeedKind.{FeedKind}

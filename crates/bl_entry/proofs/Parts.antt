@@ -16,7 +16,8 @@ use Rattle.bl_value.specs.declared.value.Value.{Value}
 use Rattle.bl_value.specs.declared.value.Value.TheVariants as value
 use Rattle.bl_value.specs.declared.change.Change.{Change}
 use Rattle.bl_value.specs.declared.change.Change.TheVariants.{AddLabel, AddEdge, AddValue, RemoveValue}
-use Rattle.bl_value.specs.Valid.{IsId, IsKey, IsShortText, IsDate, IsValue, IsChange}
+use Rattle.bl_outside.specs.Texts.{IsShortText}
+use Rattle.bl_value.specs.Valid.{IsId, IsKey, IsDate, IsValue, IsChange}
 use Rattle.bl_files.specs.declared.log.Log.{Log}
 use Rattle.bl_entry.specs.Encoding.{text_bytes, truth_bytes, digest_bytes, code_number, code_bytes, log_bytes, side_bytes, value_bytes, change_bytes}
 use Rattle.bl_entry.specs.Valid.{IsDigest, IsLog}

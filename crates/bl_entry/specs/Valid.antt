@@ -1,8 +1,9 @@
 -- What a valid entry is: the ranges of its parts.
-use Rattle.std.specs.Prelude.{◌≡◌, ◌<◌, ◌^◌, true, List, length}
+use Rattle.std.specs.Prelude.{◌≡◌, ℕ, ◌<◌, ◌^◌, true, List, length}
 use Rattle.std.specs.List.{All}
 use Rattle.bl_outside.specs.declared.digest.Digest.{Digest}
-use Rattle.bl_value.specs.Valid.{IsShortText, IsChange}
+use Rattle.bl_outside.specs.Texts.{IsShortText}
+use Rattle.bl_value.specs.Valid.{IsChange}
 use Rattle.bl_files.specs.Sources.{is_kept_source}
 use Rattle.bl_files.specs.declared.log.Log.{Log}
 use Rattle.bl_files.specs.declared.feed_kind.FeedKind.{FeedKind}
@@ -15,6 +16,10 @@ use Rattle.bl_files.specs.declared.feed_end.FeedEnd.TheVariants as ends
 use Rattle.bl_files.specs.declared.load_request.LoadRequest.{LoadRequest}
 use Rattle.bl_entry.specs.declared.entry.Entry.{Entry}
 use Rattle.bl_entry.specs.declared.entry.Entry.TheVariants.{Submit, Cancel, Start, Batch, FeedEnd as End}
+
+-- the most rows of a batch that may follow
+abbrev pub most_rows : ℕ
+most_rows = 1000
 
 abbrev pub IsDigest : Digest → Type 0
 IsDigest digest = length digest.bytes ≡ 32

@@ -1,7 +1,16 @@
 // Entries read from their bytes.
 ghost use Rattle.std.specs.Prelude.{◌≡◌, ◌+◌};
 ghost use Rattle.bl_entry.specs.Decoded.{Decodes};
-ghost use Rattle.bl_entry.specs.Reading.{Gives, batch_at, cancel_at, entry_at, feed_end_at, start_at, submit_at, whole_at};
+ghost use Rattle.bl_entry.specs.Reading.{
+  Gives,
+  batch_at,
+  cancel_at,
+  entry_at,
+  feed_end_at,
+  start_at,
+  submit_at,
+  whole_at,
+};
 
 use crate::part::read_list;
 use crate::read_files::{read_end, read_plan, read_request};

@@ -3,8 +3,11 @@ use bl_files::{FeedEnd, LoadRequest, Log, PlanResult};
 use bl_outside::{Digest, List};
 use bl_value::Change;
 
-/// One event of the core, as the journal keeps it. The moment is in milliseconds from 1970 UTC; jobs
-/// and feeds are counted from 1.
+/// The most records of one batch that may follow.
+pub const MOST_ROWS: u32 = 1000;
+
+/// One event of the core, as the journal keeps it. The moment is in milliseconds from 1970 UTC;
+/// jobs and feeds are counted from 1.
 #[derive(Debug, Drop)]
 pub enum Entry {
     /// A load was asked for.
@@ -32,6 +35,7 @@ pub enum Entry {
         feed: u32,
         /// How many of the file's records were taken before.
         from: u64,
+        /// How many records were taken.
         rows: u32,
         /// The digest of the file's records up to and with these.
         digest: Digest,

@@ -6,13 +6,14 @@ ghost use Rattle.bl_value.specs.Valid.{IsChange};
 ghost use Rattle.bl_entry.specs.Valid.{IsFound, IsLog};
 
 use crate::EntryRefusal;
+use crate::buffer::Buffer;
 use crate::part::Part;
 use crate::read_changes::{read_change, read_log};
 use crate::read_files::read_found;
 use crate::read_parts::read_u128;
 use crate::write_parts::{write_change, write_found, write_log, write_u128};
 use bl_files::{Found, Log};
-use bl_outside::{NoMemory, Text};
+use bl_outside::NoMemory;
 use bl_value::Change;
 use std::alloc::Global;
 
@@ -23,7 +24,7 @@ impl Part for Log {
 
     ghost at = { log_at };
 
-    fn write(&self, out: &mut Text) -> Result<(), NoMemory> {
+    fn write(&self, out: &mut Buffer) -> Result<(), NoMemory> {
         write_log(out, self)
     }
 
@@ -39,7 +40,7 @@ impl Part for Change {
 
     ghost at = { change_at };
 
-    fn write(&self, out: &mut Text) -> Result<(), NoMemory> {
+    fn write(&self, out: &mut Buffer) -> Result<(), NoMemory> {
         write_change(out, self)
     }
 
@@ -55,7 +56,7 @@ impl Part for Found {
 
     ghost at = { found_at };
 
-    fn write(&self, out: &mut Text) -> Result<(), NoMemory> {
+    fn write(&self, out: &mut Buffer) -> Result<(), NoMemory> {
         write_found(out, self)
     }
 
@@ -71,7 +72,7 @@ impl Part for u128 {
 
     ghost at = { long_at };
 
-    fn write(&self, out: &mut Text) -> Result<(), NoMemory> {
+    fn write(&self, out: &mut Buffer) -> Result<(), NoMemory> {
         write_u128(out, *self)
     }
 

@@ -6,8 +6,9 @@ ghost use Rattle.bl_entry.specs.Reading.{Gives, items_at, list_at};
 ghost use Rattle.bl_entry.specs.Valid.{IsList};
 
 use crate::EntryRefusal;
+use crate::buffer::Buffer;
 use crate::read_parts::read_u32;
-use bl_outside::{List, NoMemory, Text};
+use bl_outside::{List, NoMemory};
 use std::alloc::Global;
 
 /// A part of an entry that stands in lists.
@@ -18,7 +19,7 @@ pub trait Part: Drop {
 
     ghost at: { Items ℕ → Option (Self × Items ℕ) };
 
-    fn write(&self, out: &mut Text) -> Result<(), NoMemory>
+    fn write(&self, out: &mut Buffer) -> Result<(), NoMemory>
         requires { valid self.now }
         ensures { OnOk result (out.new ≡ out.old ++ bytes self.now) };
 
@@ -27,7 +28,7 @@ pub trait Part: Drop {
 }
 
 /// The number of items, and the items.
-pub fn write_list<T: Part>(out: &mut Text, items: &List<T>) -> Result<(), NoMemory>
+pub fn write_list<T: Part>(out: &mut Buffer, items: &List<T>) -> Result<(), NoMemory>
     requires { IsList T.valid items.now }
     ensures { OnOk result (out.new ≡ out.old ++ list_bytes T.bytes items.now) }
 {

@@ -1,6 +1,15 @@
 // Files, plans, ends and requests, read from the front of the bytes.
 ghost use Rattle.std.specs.Prelude.{◌≡◌};
-ghost use Rattle.bl_entry.specs.Reading.{Gives, end_at, found_at, kind_at, mode_at, plan_at, request_at, source_at};
+ghost use Rattle.bl_entry.specs.Reading.{
+  Gives,
+  end_at,
+  found_at,
+  kind_at,
+  mode_at,
+  plan_at,
+  request_at,
+  source_at,
+};
 
 use crate::EntryRefusal;
 use crate::part::read_list;

@@ -1,7 +1,23 @@
-// The parts of an entry, read from the front of the bytes. A reader gives the part and what follows.
+// The parts of an entry, read from the front of the bytes. A reader gives the part and what
+// follows.
 ghost use Rattle.std.specs.Prelude.{◌≡◌};
 ghost use Rattle.std.specs.Int.{w8, w16, w32, w64};
-ghost use Rattle.bl_entry.specs.Reading.{Gives, below_at, code_at, code_of, digest_at, front_at, is_date, long_at, number_at, short_at, signed_at, tested_at, text_at, truth_at};
+ghost use Rattle.bl_entry.specs.Reading.{
+  Gives,
+  below_at,
+  code_at,
+  code_of,
+  digest_at,
+  front_at,
+  is_date,
+  long_at,
+  number_at,
+  short_at,
+  signed_at,
+  tested_at,
+  text_at,
+  truth_at,
+};
 
 use crate::{ALL_CODES, EntryRefusal, code_number};
 use bl_outside::{Digest, Text, is_utf8};

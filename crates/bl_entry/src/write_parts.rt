@@ -1,43 +1,61 @@
 // The parts of an entry, written at the end of a text.
 ghost use Rattle.std.specs.Prelude.{◌≡◌, ◌++◌, ◌<◌, ◌^◌, length, OnOk};
-ghost use Rattle.bl_entry.specs.Encoding.{change_bytes, code_bytes, end_bytes, found_bytes, kind_bytes, log_bytes, mode_bytes, plan_bytes, request_bytes, side_bytes, text_bytes, truth_bytes, u128_bytes, u32_bytes, u64_bytes, value_bytes};
+ghost use Rattle.bl_entry.specs.Encoding.{
+  change_bytes,
+  code_bytes,
+  end_bytes,
+  found_bytes,
+  kind_bytes,
+  log_bytes,
+  mode_bytes,
+  plan_bytes,
+  request_bytes,
+  side_bytes,
+  text_bytes,
+  truth_bytes,
+  u128_bytes,
+  u32_bytes,
+  u64_bytes,
+  value_bytes,
+};
 ghost use Rattle.bl_value.specs.Valid.{IsChange, IsValue};
 ghost use Rattle.bl_entry.specs.Valid.{IsEnd, IsFound, IsKind, IsLog, IsPlan, IsRequest};
 
+use crate::buffer::Buffer;
 use crate::code_number;
 use crate::part::write_list;
 use bl_files::{FeedEnd, FeedKind, Found, LoadRequest, Log, Mode, PlanResult};
 use bl_outside::{NoMemory, Text};
 use bl_value::{Change, LogCode, Side, Value};
 
-pub fn write_u32(out: &mut Text, number: u32) -> Result<(), NoMemory>
+pub fn write_u32(out: &mut Buffer, number: u32) -> Result<(), NoMemory>
     ensures { OnOk result (out.new ≡ out.old ++ u32_bytes number) }
 {
     out.extend(&number.to_be_bytes())
 }
 
-pub fn write_u64(out: &mut Text, number: u64) -> Result<(), NoMemory>
+pub fn write_u64(out: &mut Buffer, number: u64) -> Result<(), NoMemory>
     ensures { OnOk result (out.new ≡ out.old ++ u64_bytes number) }
 {
     out.extend(&number.to_be_bytes())
 }
 
 #[tactic(auto, using(crate::proofs::Appends::joined))]
-pub fn write_u128(out: &mut Text, number: u128) -> Result<(), NoMemory>
+pub fn write_u128(out: &mut Buffer, number: u128) -> Result<(), NoMemory>
     ensures { OnOk result (out.new ≡ out.old ++ u128_bytes number) }
 {
     write_u64(out, (number / 18446744073709551616) as u64)?;
     write_u64(out, (number % 18446744073709551616) as u64)
 }
 
-fn write_truth(out: &mut Text, truth: bool) -> Result<(), NoMemory>
+fn write_truth(out: &mut Buffer, truth: bool) -> Result<(), NoMemory>
     ensures { OnOk result (out.new ≡ out.old ++ truth_bytes truth) }
 {
     out.push(if truth { 1 } else { 0 })
 }
 
 #[tactic(auto, using(crate::proofs::Appends::joined))]
-fn write_text(out: &mut Text, text: &Text) -> Result<(), NoMemory>
+fn write_text(out: &mut Buffer, text: &Text) -> Result<(), NoMemory>
     requires { length text.now < 2 ^ 32 }
     ensures { OnOk result (out.new ≡ out.old ++ text_bytes text.now) }
 {
@@ -45,14 +63,14 @@ fn write_text(out: &mut Text, text: &Text) -> Result<(), NoMemory>
     out.extend(text.as_slice())
 }
 
-fn write_code(out: &mut Text, code: LogCode) -> Result<(), NoMemory>
+fn write_code(out: &mut Buffer, code: LogCode) -> Result<(), NoMemory>
     ensures { OnOk result (out.new ≡ out.old ++ code_bytes code) }
 {
     out.push(code_number(code))
 }
 
 #[tactic(auto, using(crate::proofs::Appends::joined))]
-pub fn write_log(out: &mut Text, log: &Log) -> Result<(), NoMemory>
+pub fn write_log(out: &mut Buffer, log: &Log) -> Result<(), NoMemory>
     ensures { OnOk result (out.new ≡ out.old ++ log_bytes log.now) }
 {
     write_code(out, log.code)?;
@@ -60,7 +78,7 @@ pub fn write_log(out: &mut Text, log: &Log) -> Result<(), NoMemory>
     write_u32(out, log.column)
 }
 
-fn write_side(out: &mut Text, side: Side) -> Result<(), NoMemory>
+fn write_side(out: &mut Buffer, side: Side) -> Result<(), NoMemory>
     ensures { OnOk result (out.new ≡ out.old ++ side_bytes side) }
 {
     match side {
@@ -70,7 +88,7 @@ fn write_side(out: &mut Text, side: Side) -> Result<(), NoMemory>
 }
 
 #[tactic(auto, using(crate::proofs::Appends::joined))]
-fn write_value(out: &mut Text, value: &Value) -> Result<(), NoMemory>
+fn write_value(out: &mut Buffer, value: &Value) -> Result<(), NoMemory>
     requires { IsValue value.now }
     ensures { OnOk result (out.new ≡ out.old ++ value_bytes value.now) }
 {
@@ -107,7 +125,7 @@ fn write_value(out: &mut Text, value: &Value) -> Result<(), NoMemory>
 }
 
 #[tactic(auto, using(crate::proofs::Appends::joined))]
-pub fn write_change(out: &mut Text, change: &Change) -> Result<(), NoMemory>
+pub fn write_change(out: &mut Buffer, change: &Change) -> Result<(), NoMemory>
     requires { IsChange change.now }
     ensures { OnOk result (out.new ≡ out.old ++ change_bytes change.now) }
 {
@@ -152,7 +170,7 @@ pub fn write_change(out: &mut Text, change: &Change) -> Result<(), NoMemory>
 
 #[tactic(auto, using(crate::proofs::Appends::joined))]
 fn write_property(
-    out: &mut Text,
+    out: &mut Buffer,
     side: Side,
     id: &Text,
     key: &Text,
@@ -161,7 +179,10 @@ fn write_property(
     requires id { length id.now < 2 ^ 32 }
     requires key { length key.now < 2 ^ 32 }
     requires value { IsValue value.now }
-    ensures { OnOk result (out.new ≡ out.old ++ (side_bytes side ++ (text_bytes id.now ++ (text_bytes key.now ++ value_bytes value.now)))) }
+    ensures { OnOk result
+        (out.new ≡ out.old
+        ++ (side_bytes side
+        ++ (text_bytes id.now ++ (text_bytes key.now ++ value_bytes value.now)))) }
 {
     write_side(out, side)?;
     write_text(out, id)?;
@@ -170,7 +191,7 @@ fn write_property(
 }
 
 #[tactic(auto, using(crate::proofs::Appends::joined))]
-fn write_kind(out: &mut Text, kind: FeedKind) -> Result<(), NoMemory>
+fn write_kind(out: &mut Buffer, kind: FeedKind) -> Result<(), NoMemory>
     ensures { OnOk result (out.new ≡ out.old ++ kind_bytes kind) }
 {
     match kind {
@@ -185,7 +206,7 @@ fn write_kind(out: &mut Text, kind: FeedKind) -> Result<(), NoMemory>
 }
 
 #[tactic(auto, using(crate::proofs::Appends::joined))]
-pub fn write_found(out: &mut Text, found: &Found) -> Result<(), NoMemory>
+pub fn write_found(out: &mut Buffer, found: &Found) -> Result<(), NoMemory>
     requires { IsFound found.now }
     ensures { OnOk result (out.new ≡ out.old ++ found_bytes found.now) }
 {
@@ -195,7 +216,7 @@ pub fn write_found(out: &mut Text, found: &Found) -> Result<(), NoMemory>
 }
 
 #[tactic(auto, using(crate::proofs::Appends::joined))]
-pub fn write_plan(out: &mut Text, plan: &PlanResult) -> Result<(), NoMemory>
+pub fn write_plan(out: &mut Buffer, plan: &PlanResult) -> Result<(), NoMemory>
     requires { IsPlan plan.now }
     ensures { OnOk result (out.new ≡ out.old ++ plan_bytes plan.now) }
 {
@@ -215,7 +236,7 @@ pub fn write_plan(out: &mut Text, plan: &PlanResult) -> Result<(), NoMemory>
 }
 
 #[tactic(auto, using(crate::proofs::Appends::joined))]
-pub fn write_end(out: &mut Text, end: FeedEnd) -> Result<(), NoMemory>
+pub fn write_end(out: &mut Buffer, end: FeedEnd) -> Result<(), NoMemory>
     ensures { OnOk result (out.new ≡ out.old ++ end_bytes end) }
 {
     match end {
@@ -229,7 +250,7 @@ pub fn write_end(out: &mut Text, end: FeedEnd) -> Result<(), NoMemory>
     }
 }
 
-fn write_mode(out: &mut Text, mode: Mode) -> Result<(), NoMemory>
+fn write_mode(out: &mut Buffer, mode: Mode) -> Result<(), NoMemory>
     ensures { OnOk result (out.new ≡ out.old ++ mode_bytes mode) }
 {
     match mode {
@@ -240,7 +261,7 @@ fn write_mode(out: &mut Text, mode: Mode) -> Result<(), NoMemory>
 }
 
 #[tactic(auto, using(crate::proofs::Appends::joined))]
-pub fn write_request(out: &mut Text, request: &LoadRequest) -> Result<(), NoMemory>
+pub fn write_request(out: &mut Buffer, request: &LoadRequest) -> Result<(), NoMemory>
     requires { IsRequest request.now }
     ensures { OnOk result (out.new ≡ out.old ++ request_bytes request.now) }
 {

@@ -150,8 +150,8 @@ fn a_frame_of_any_body_is_read(rt: HostRuntime) {
     assert!(rt; body.as_slice() == b"\xff".as_slice() && only);
 }
 
-// One device call fails, this one. 1 where the beginning answers so, 2 where the first reading does,
-// and whether the same call then answers as it should.
+// One device call fails, this one. 1 where the beginning answers so, 2 where the first reading
+// does, and whether the same call then answers as it should.
 fn read_with_fault(alloc: Global, call: u64) -> Result<(u32, bool), NoMemory> {
     let mut fails = List::new(alloc);
     fails.push(call)?;
