@@ -23,7 +23,7 @@ pub struct BatchResult {
 }
 
 impl BatchResult {
-    pub(crate) fn nothing_yet(alloc: Global) -> BatchResult
+    pub fn nothing_yet(alloc: Global) -> BatchResult
         ensures { result ≡ nothing_yet }
     {
         BatchResult {
@@ -36,7 +36,7 @@ impl BatchResult {
     }
 
     // Logs a refused row, or stops before it.
-    pub(crate) fn refuse(
+    pub fn refuse(
         &mut self,
         fail_on_error: bool,
         code: LogCode,

@@ -16,16 +16,6 @@ use bl_outside::{List, NoMemory};
 use bl_value::{Change, DigestRow, Row};
 use std::alloc::Global;
 
-// Moves changes behind the others.
-fn append(all: &mut List<Change>, changes: List<Change>) -> Result<(), NoMemory>
-    ensures { OnOk result (all.new ≡ all.old ++ changes) }
-{
-    for change in changes.into_vec() {
-        all.push(change)?;
-    }
-    Ok(())
-}
-
 // Applies changes, and then moves them behind the others.
 fn take_changes(
     graph: &mut Graph,
@@ -37,7 +27,7 @@ fn take_changes(
     ensures front { OnErr result (IsAfterFront graph.old changes graph.new) }
 {
     graph.apply_all(&changes)?;
-    append(all, changes)
+    all.append(changes)
 }
 
 // Takes one row. After want of memory the graph has taken a front of its changes.
@@ -49,8 +39,11 @@ fn take_row(
 ) -> Result<(), NoMemory>
     requires rows { made.old.rows < 2 ^ 32 - 1 }
     requires duplicates { made.old.duplicates < 2 ^ 32 - 1 }
-    ensures row { OnOk result (so_far graph.new made.new ≡ with_row request.now (so_far graph.old made.old) row.now) }
-    ensures front { OnErr result (IsAfterFront graph.old (verdict_changes (admit graph.old request.now.update_single row.now)) graph.new) }
+    ensures row { OnOk result
+        (so_far graph.new made.new ≡ with_row request.now (so_far graph.old made.old) row.now) }
+    ensures front { OnErr result
+        (IsAfterFront graph.old
+        (verdict_changes (admit graph.old request.now.update_single row.now)) graph.new) }
 {
     match graph.admit(request.update_single, row)? {
         Verdict::Changes(changes) => {
@@ -75,8 +68,10 @@ fn take_rows(
     rows: &List<DigestRow>,
 ) -> Result<BatchResult, NoMemory>
     requires { length rows.now < 2 ^ 32 }
-    ensures batch { IfOk result (λ made. so_far graph.new made ≡ batch request.now graph.old rows.now) }
-    ensures front { OnErr result (IsAfterFront graph.old (batch request.now graph.old rows.now).result.changes graph.new) }
+    ensures batch { IfOk result (λ made.
+        so_far graph.new made ≡ batch request.now graph.old rows.now) }
+    ensures front { OnErr result
+        (IsAfterFront graph.old (batch request.now graph.old rows.now).result.changes graph.new) }
 {
     let mut made = BatchResult::nothing_yet(alloc);
     for row in rows.as_slice() {
@@ -100,14 +95,17 @@ pub fn batch(
     rows: &List<DigestRow>,
 ) -> Result<BatchResult, NoMemory>
     requires { length rows.now < 2 ^ 32 }
-    ensures batch { IfOk result (λ made. so_far graph.new made ≡ batch request.now graph.old rows.now) }
-    ensures front { OnErr result (IsAfterFront graph.old (batch request.now graph.old rows.now).result.changes graph.new) }
+    ensures batch { IfOk result (λ made.
+        so_far graph.new made ≡ batch request.now graph.old rows.now) }
+    ensures front { OnErr result
+        (IsAfterFront graph.old (batch request.now graph.old rows.now).result.changes graph.new) }
     ensures replays { IfOk result (λ made. after graph.old made.changes ≡ graph.new) }
     ensures counts { IfOk result (CountsRows rows.now) }
     ensures logs { IfOk result (NumbersLogs request.now.fail_on_error) }
     ensures fit { IfOk result (λ made. AreProperRows rows.now → fit graph.old made.changes ≡ true) }
     ensures valid { AreProperRows rows.now → IsValidGraph graph.old → IsValidGraph graph.new }
-    ensures valid_changes { IfOk result (λ made. AreValidRows rows.now → HasValidValues graph.old → All IsChange made.changes) }
+    ensures valid_changes { IfOk result (λ made.
+        AreValidRows rows.now → HasValidValues graph.old → All IsChange made.changes) }
     ensures values { AreValidRows rows.now → HasValidValues graph.old → HasValidValues graph.new }
 {
     take_rows(alloc, graph, request, rows)

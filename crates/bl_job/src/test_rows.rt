@@ -26,10 +26,6 @@ pub enum Step {
 /// A log: its code, its number and its column.
 pub type Told = (LogCode, u64, u32);
 
-pub fn text(alloc: Global, word: &str) -> Result<Text, NoMemory> {
-    Text::copy_of(alloc, word.as_bytes())
-}
-
 /// A property of one value, in column 2.
 pub fn second_column(
     alloc: Global,
@@ -41,7 +37,7 @@ pub fn second_column(
     values.push(value)?;
     let mut properties = List::new(alloc);
     properties.push(Property {
-        key: text(alloc, key)?,
+        key: Text::of_str(alloc, key)?,
         column: 2,
         single,
         values,
@@ -52,7 +48,7 @@ pub fn second_column(
 fn texts(alloc: Global, words: &[&str]) -> Result<List<Text>, NoMemory> {
     let mut texts = List::new(alloc);
     for word in words {
-        texts.push(text(alloc, word)?)?;
+        texts.push(Text::of_str(alloc, word)?)?;
     }
     Ok(texts)
 }
@@ -60,20 +56,20 @@ fn texts(alloc: Global, words: &[&str]) -> Result<List<Text>, NoMemory> {
 fn row(alloc: Global, line: Line) -> Result<Row, NoMemory> {
     Ok(match line {
         Line::Vertex(id, labels) => Row::Vertex {
-            id: text(alloc, id)?,
+            id: Text::of_str(alloc, id)?,
             labels: texts(alloc, labels)?,
             properties: List::new(alloc),
         },
         Line::Named(id, name) => Row::Vertex {
-            id: text(alloc, id)?,
+            id: Text::of_str(alloc, id)?,
             labels: List::new(alloc),
-            properties: second_column(alloc, "name", true, Value::Str(text(alloc, name)?))?,
+            properties: second_column(alloc, "name", true, Value::Str(Text::of_str(alloc, name)?))?,
         },
         Line::Edge(id, from, to, label) => Row::Edge {
-            id: text(alloc, id)?,
-            label: text(alloc, label)?,
-            from: text(alloc, from)?,
-            to: text(alloc, to)?,
+            id: Text::of_str(alloc, id)?,
+            label: Text::of_str(alloc, label)?,
+            from: Text::of_str(alloc, from)?,
+            to: Text::of_str(alloc, to)?,
             properties: List::new(alloc),
         },
         Line::Bad(code, column) => Row::Bad { code, column },
@@ -102,7 +98,7 @@ pub fn request(
     update_single: bool,
 ) -> Result<LoadRequest, NoMemory> {
     Ok(LoadRequest {
-        source: text(alloc, "s3://b/f")?,
+        source: Text::of_str(alloc, "s3://b/f")?,
         format: 0,
         mode: Mode::New,
         fail_on_error,

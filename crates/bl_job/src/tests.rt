@@ -1,10 +1,10 @@
 // Batches of rows, and what they come to.
 use crate::test_rows::{
-    Line, Step, Told, are_steps, are_told, push_row, request, rows, second_column, text, told,
+    Line, Step, Told, are_steps, are_told, push_row, request, rows, second_column, told,
 };
 use crate::{BatchResult, batch};
 use bl_graph::Graph;
-use bl_outside::{List, NoMemory};
+use bl_outside::{List, NoMemory, Text};
 use bl_value::{DigestRow, LogCode, Row, Value};
 use std::alloc::Global;
 
@@ -181,7 +181,7 @@ fn batches_come_to_what_their_rows_say(rt: HostRuntime) {
 // A vertex of this number with an age.
 fn aged(alloc: Global, number: i32, age: i32) -> Result<Row, NoMemory> {
     Ok(Row::Vertex {
-        id: text(alloc, format!(in alloc; "v{number}")?.as_str())?,
+        id: Text::of_str(alloc, format!(in alloc; "v{number}")?.as_str())?,
         labels: List::new(alloc),
         properties: second_column(alloc, "age", false, Value::Int(age))?,
     })
