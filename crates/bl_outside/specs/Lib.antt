@@ -4,6 +4,8 @@ pub mod Texts
 pub mod Folders
 pub mod Disks
 pub mod Plans
+pub mod Clocks
+pub mod MemoryStreams
 pub mod MemoryFolders
 pub mod MemoryDisks
 pub mod MemoryLaws
