@@ -1,8 +1,8 @@
 // Which calls of an object in memory fail.
 ghost use Rattle.std.specs.Prelude.{◌≡◌, OnOk, IsErrOf};
-ghost use Rattle.bl_outside.specs.Plans.{called, is_due, no_faults, plan_of};
+ghost use Rattle.bl_outside.specs.Plans.{called, is_due, no_faults, one_more, plan_of};
 ghost use Rattle.bl_outside.specs.Counts.{HasDeviceCause};
-ghost use Rattle.bl_outside.specs.declared.refusals.Outside.TheVariants.{NoMemory as out_of_memory};
+ghost use Rattle.bl_outside.specs.declared.refusals.Outside.TheVariants.{Failed as device_failed, NoMemory as out_of_memory};
 
 use crate::{List, Outside};
 use std::alloc::Global;
@@ -66,6 +66,7 @@ impl Faults {
 pub fn counted<T>(faults: &mut u64, answer: Result<T, Outside>) -> Result<T, Outside>
     ensures same { result ≡ answer }
     ensures cause { HasDeviceCause faults.old faults.new result }
+    ensures failed { IsErrOf result device_failed → faults.new ≡ one_more faults.old }
     ensures ok { OnOk result (faults.new ≡ faults.old) }
     ensures memory { IsErrOf result out_of_memory → faults.new ≡ faults.old }
 {
