@@ -3,7 +3,6 @@ pub mod Readers
 pub mod RowReaders
 pub mod Texts
 pub mod TrimmedTexts
-pub mod ItemTexts
 pub mod CellValues
 pub mod FirstCells
 pub mod RowFaults

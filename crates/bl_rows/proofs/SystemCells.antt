@@ -22,7 +22,7 @@ use Rattle.bl_rows.specs.Rows.{edge_label, is_key_use, is_label_use, is_long, is
 use Rattle.bl_value.specs.ValidRows.{AreLabels}
 use Rattle.bl_rows.proofs.Distinct.{each_once_text, no_texts_apart, texts_apart}
 use Rattle.bl_rows.proofs.FirstCells.{silent}
-use Rattle.bl_rows.proofs.ItemTexts.{items_are_utf8}
+use Rattle.bl_value.proofs.ItemTexts.{items_are_utf8}
 use Rattle.bl_rows.proofs.RowFaults.{KeptBelow, text_at}
 use Rattle.bl_rows.proofs.Texts.{texts_of}
 use Rattle.bl_rows.proofs.TrimmedTexts.{utf8_without_spaces}

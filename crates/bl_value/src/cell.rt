@@ -44,8 +44,8 @@ pub fn read_cell(alloc: Global, kind: ValueType, cell: &[u8]) -> Result<Value, C
     read_text(alloc, kind, cell)
 }
 
-// The value of a cell in UTF-8.
-fn read_text(alloc: Global, kind: ValueType, cell: &[u8]) -> Result<Value, CellRefusal>
+/// The value of a cell in UTF-8.
+pub fn read_text(alloc: Global, kind: ValueType, cell: &[u8]) -> Result<Value, CellRefusal>
     requires short { length cell.now < 2 ^ 32 }
     requires utf8 { IsUtf8 cell.now }
     ensures value { IfOk result (λ value. text_cell kind cell.now ≡ Ok value) }
