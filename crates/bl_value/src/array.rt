@@ -1,6 +1,6 @@
 // Cells that are arrays: items, divided by semicolons.
 ghost use Rattle.std.specs.Prelude.{
-    ◌≡◌, ◌+◌, ◌≤◌, ◌<◌, ◌^◌, ◌⊎◌, ◌∷◌, [], true, false, length, Ok, Err, IfOk, IfErr, OnOk
+    ◌≡◌, ◌+◌, ◌≤◌, ◌<◌, ◌^◌, ◌⊎◌, ◌∷◌, [], true, false, length, Ok, Err, IfOk, IfErr, IfSome, OnOk
 };
 ghost use Rattle.std.specs.Bool.{OnTrue};
 ghost use Rattle.std.specs.List.{All, IsDistinct};
@@ -8,7 +8,7 @@ ghost use Rattle.std.specs.Option.{option_copied};
 ghost use Rattle.std.specs.Ordering.{eq_by_cmp};
 ghost use Rattle.std.specs.Str.{IsUtf8};
 ghost use Rattle.bl_value.specs.Cells as cells;
-ghost use Rattle.bl_value.specs.Cells.{each_once, values_in, values_of};
+ghost use Rattle.bl_value.specs.Cells.{each_once, item_values, values_in, values_of};
 ghost use Rattle.bl_value.specs.ItemsLeft.{bytes_left, items_left, with_values};
 ghost use Rattle.bl_value.specs.Order.{value_cmp};
 ghost use Rattle.bl_value.specs.Valid.{IsValue};
@@ -144,13 +144,63 @@ fn read_items(
     ensures valid { IfOk result (All IsValue) }
 {
     let mut values = EachOnce::new(alloc);
-    let mut item = Vec::new(alloc);
+    let mut room = Vec::new(alloc);
     let mut left = Some(cell);
     while let Some(rest) = left {
-        left = read_item(rest, &mut item)?;
-        push_value(alloc, is_text, kind, item.as_slice(), &mut values)?;
+        left = take_item(alloc, is_text, kind, rest, &mut room, &mut values)?;
     }
     Ok(values.into_list())
+}
+
+// Adds the value of the item in front, and gives what stands behind the semicolon that ends it.
+// An item with a backslash is put together in the room.
+fn take_item<'a>(
+    alloc: Global,
+    is_text: bool,
+    kind: ValueType,
+    cell: &'a [u8],
+    room: &mut Vec<u8>,
+    values: &mut EachOnce<Value>,
+) -> Result<Option<&'a [u8]>, CellRefusal>
+    requires short { length cell.now < 2 ^ 32 }
+    requires utf8 { is_text ≡ true → All IsUtf8 (cells.items cell.now) }
+    requires valid { All IsValue values.old }
+    ensures values { IfOk result
+        (λ left. with_values values.old (item_values kind (cells.items cell.now))
+        ≡ with_values values.new (item_values kind (items_left (option_copied left)))) }
+    ensures texts { IfOk result
+        (λ left. is_text ≡ true → All IsUtf8 (items_left (option_copied left))) }
+    ensures bytes { IfOk result (λ left. bytes_left (option_copied left) ≤ length cell.now) }
+    ensures refusal { IfErr result
+        (λ refusal. (refusal ≡ out_of_memory)
+        ⊎ (with_values values.old (item_values kind (cells.items cell.now)) ≡ Err refusal)) }
+    ensures valid { OnOk result (All IsValue values.new) }
+{
+    if let Some((item, left)) = plain_item(cell) {
+        push_value(alloc, is_text, kind, item, values)?;
+        return Ok(left);
+    }
+    let left = read_item(cell, room)?;
+    push_value(alloc, is_text, kind, room.as_slice(), values)?;
+    Ok(left)
+}
+
+// The item in front, and what stands behind the semicolon that ends it. None where a backslash
+// stands in the item.
+fn plain_item(cell: &[u8]) -> Option<(&[u8], Option<&[u8]>)>
+    ensures items { IfSome result
+        (λ found. cells.items cell.now ≡ found.0.now ∷ items_left (option_copied found.1)) }
+    ensures bytes { IfSome result
+        (λ found. length found.0.now + bytes_left (option_copied found.1) ≤ length cell.now) }
+{
+    for (i, byte) in cell.iter().enumerate() {
+        match byte {
+            b'\\' => return None,
+            b';' => return Some((&cell[..i], Some(&cell[i + 1..]))),
+            _ => {}
+        }
+    }
+    Some((cell, None))
 }
 
 // Adds the value of an item that isn't empty, unless it is there.

@@ -11,13 +11,18 @@ use crate::integer::{read_byte, read_int, read_long, read_short};
 use crate::{Value, ValueType};
 use bl_outside::{NoMemory, Text};
 use std::alloc::Global;
+use thiserror::Error;
 
 /// Why a cell has no value.
-#[derive(Clone, Copy, Debug, PartialEq, Eq)]
+#[derive(Clone, Copy, Debug, PartialEq, Eq, Error)]
 pub enum CellRefusal {
+    #[error("not UTF-8")]
     NotUtf8,
+    #[error("not of the column's type")]
     NotOfType,
+    #[error("outside the range of the column's type")]
     OutOfRange,
+    #[error("out of memory")]
     NoMemory,
 }
 
