@@ -20,8 +20,6 @@ use Rattle.bl_value.specs.declared.row.Property.{Property as RowProperty}
 use Rattle.bl_value.specs.declared.row.Row.{Row}
 use Rattle.bl_value.specs.declared.row.Row.TheVariants.{Vertex, Edge, Bad}
 use Rattle.bl_rows.specs.Rows.{IsRowOf, edge_label, is_from_use, is_id_use, is_label_use, is_long, is_missing, is_to_use, labels_in, properties_of, system_cell, value_count}
-use Rattle.bl_rows.specs.declared.system_cells.SystemColumn.{SystemColumn}
-use Rattle.bl_rows.specs.declared.system_cells.SystemColumn.TheVariants as system
 use Rattle.bl_rows.specs.declared.refused.Refused.{Refused}
 use Rattle.bl_rows.specs.declared.refused.Refused.TheVariants.{Fault, NoMemory}
 
@@ -65,6 +63,10 @@ whole_code columns fields =
     if length fields == length columns.uses then (if list_all is_utf8 fields then (if are_small fields then None else Some RecordTooLarge) else Some NotUtf8)
     else Some ColumnCount
 
+-- the values of properties, together
+abbrev pub values_in_all : List RowProperty → ℕ
+values_in_all properties = sum_by (λ property. length property.values) properties
+
 -- so many labels and values
 abbrev pub many_told : ℕ → Option Told
 many_told count = if nat_le count 4096 then None else Some (TooManyValues, 0)
@@ -83,13 +85,6 @@ cells_told columns fields =
 -- what all rules tell
 abbrev pub told : Columns → Fields → Option Told
 told columns fields = first_of (cells_told columns fields) (many_told (value_count columns fields))
-
--- a column is the one that is looked for
-abbrev pub wanted : SystemColumn → ColumnUse → Bool
-wanted system.Id role = is_id_use role
-wanted system.Label role = is_label_use role
-wanted system.From role = is_from_use role
-wanted system.To role = is_to_use role
 
 -- the row of a record without a fault
 abbrev pub row_by : Side → List ColumnUse → Fields → List RowProperty → Row

@@ -5,4 +5,4 @@ pub mod RecordReaders
 pub mod RowReaders
 pub mod Rows
 pub mod FirstFaults
-pub mod Labels
+pub mod SystemCells

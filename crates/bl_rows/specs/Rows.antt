@@ -2,9 +2,10 @@
 -- the set of its faults, and its row where it has none.
 use Rattle.std.specs.Prelude.{◌≡◌, ◌⊎◌, ℕ, ◌==◌, ◌+◌, ◌<◌, nat_le, nat_eq, Bool, true, false, not, ◌&&◌, if◌then◌else◌, codes, List, [], ◌∷◌, ◌++◌, length, map, filter, sum_by, slice_get, Some, Ok, Err}
 use Rattle.std.specs.declared.result.Result.{Result}
-use Rattle.std.specs.List.{list_all, list_any}
+use Rattle.std.specs.List.{list_all}
 use Rattle.std.specs.Str.{is_utf8}
 use Rattle.std.specs.Cmp.Lexicographic.{pointwise}
+use Rattle.bl_value.specs.Once.{once_behind}
 use Rattle.bl_value.specs.Cells.{items, values_in as values_of_item, values_of, without_spaces}
 use Rattle.bl_value.specs.declared.value.Value.{Value}
 use Rattle.bl_value.specs.declared.cell.CellRefusal.{CellRefusal}
@@ -45,16 +46,14 @@ abbrev pub system_cell : (ColumnUse → Bool) → List ColumnUse → Fields → 
 system_cell is_wanted (column ∷ uses) (field ∷ fields) = if is_wanted column then without_spaces field else system_cell is_wanted uses fields
 system_cell is_wanted _ _ = []
 
--- texts without those that stand further left
-abbrev pub once_behind : List (List ℕ) → List (List ℕ) → List (List ℕ)
-once_behind left [] = []
-once_behind left (text ∷ texts) =
-    if list_any (λ other. pointwise nat_eq other text) left then once_behind left texts else text ∷ once_behind (left ++ text ∷ []) texts
+-- texts without the spaces at their ends, those that aren't empty
+abbrev pub some_labels : List (List ℕ) → List (List ℕ)
+some_labels found = filter (λ label. not (length label == 0)) (map without_spaces found)
 
 -- The labels of a vertex: the items of its label cell lose the spaces at their ends, then empty and
 -- repeated ones are dropped.
 abbrev pub labels_of : List (List ℕ) → List (List ℕ)
-labels_of found = once_behind [] (filter (λ label. not (length label == 0)) (map without_spaces found))
+labels_of found = once_behind (pointwise nat_eq) [] (some_labels found)
 
 abbrev pub labels_in : List ℕ → List (List ℕ)
 labels_in label_cell = labels_of (items label_cell)

@@ -12,6 +12,7 @@
 
 mod conversion;
 mod file;
+mod labels;
 mod laws;
 mod properties;
 mod record_digest;

@@ -9,7 +9,7 @@ ghost use Rattle.bl_value.specs.ValidRows.{HasValues};
 
 use crate::refused::Refused;
 use bl_outside::{List, Text};
-use bl_value::{CellRefusal, Column, ColumnUse, LogCode, Property, Value, read_values};
+use bl_value::{CellRefusal, Column, ColumnUse, LogCode, Property, Value, read_text_values};
 use std::alloc::Global;
 
 /// The most labels and values that a record may have together.
@@ -29,7 +29,7 @@ fn values_in(
     ensures fault { IfErr result (TellsOf (refused_code (ColumnUse.Property column.now) cell.now) number) }
     ensures valid { IfOk result (λ values. All IsValue values) }
 {
-    match read_values(alloc, column.kind, column.many, cell) {
+    match read_text_values(alloc, column.kind, column.many, cell) {
         Ok(values) => Ok(values),
         Err(CellRefusal::NotOfType) => Err(Refused::Fault {
             code: LogCode::NotOfType,
@@ -63,7 +63,7 @@ fn add_property(
         return Ok(());
     };
     let values = values_in(alloc, number, column, cell.as_slice())?;
-    if values.len() == 0 {
+    if values.is_empty() {
         return Ok(());
     }
     properties.push(Property {
@@ -89,7 +89,7 @@ pub fn read_properties(
     ensures fault { IfErr result (Tells (first_told refused_code 1 uses.now fields.now)) }
     ensures valid { IfOk result (λ properties. All HasValues properties) }
 {
-    let mut properties = List::new(alloc);
+    let mut properties = List::with_capacity(alloc, uses.len())?;
     for (i, role) in uses.iter().enumerate() {
         let Some(field) = fields.get(i) else {
             break;

@@ -43,20 +43,21 @@ fn fields_of_row(alloc: Global, row: &ByteRecord) -> Result<List<Text>, NoMemory
 
 impl RecordReader {
     /// A reader before the first record.
-    pub fn start(alloc: Global, bytes: Text) -> RecordReader
+    pub fn start(alloc: Global, bytes: Text) -> Result<RecordReader, NoMemory>
         requires { IsSmall bytes }
-        ensures { HasLeft result (contents bytes) }
+        ensures { IfOk result (λ reader. HasLeft reader (contents bytes)) }
     {
+        let bytes = bytes.into_vec()?;
         let reader = ReaderBuilder::new()
             .has_headers(false)
             .flexible(true)
-            .from_reader(alloc, Cursor::new(bytes.into_vec()));
-        RecordReader {
+            .from_reader(alloc, Cursor::new(bytes));
+        Ok(RecordReader {
             alloc,
             reader,
             row: ByteRecord::new(alloc),
             ended: false,
-        }
+        })
     }
 
     /// The next record. A reader that ran out of memory may have lost one, and isn't used again.

@@ -20,6 +20,8 @@ pub struct RowReader {
     empty: bool,
     taken: u64,
     digest: Digest,
+    // Where the text of a record is put together for the digest.
+    room: Vec<u8>,
 }
 
 /// A reader behind the header of the file.
@@ -27,7 +29,8 @@ pub fn start(alloc: Global, file: FileBytes) -> Result<RowReader, NoMemory>
     requires { IsSmall file.bytes }
     ensures { IfOk result (λ reader. Stands reader (contents file.bytes) 0 (rows_of (contents file.bytes))) }
 {
-    let mut records = RecordReader::start(alloc, file.bytes);
+    let mut records = RecordReader::start(alloc, file.bytes)?;
+    let mut room = Vec::new(alloc);
     let Some(header) = records.next()? else {
         return Ok(RowReader {
             records,
@@ -35,15 +38,17 @@ pub fn start(alloc: Global, file: FileBytes) -> Result<RowReader, NoMemory>
             empty: true,
             taken: 0,
             digest: digest_of_none(),
+            room,
         });
     };
-    let digest = digest_of_header(&header);
+    let digest = digest_of_header(&mut room, &header)?;
     Ok(RowReader {
         records,
         header,
         empty: false,
         taken: 0,
         digest,
+        room,
     })
 }
 
@@ -71,7 +76,7 @@ impl RowReader {
         let Some(fields) = self.records.next()? else {
             return Ok(None);
         };
-        self.digest = digest_behind(&self.digest, &fields);
+        self.digest = digest_behind(&mut self.room, &self.digest, &fields)?;
         self.taken = self.taken.saturating_add(1);
         Ok(Some(fields))
     }

@@ -2,6 +2,7 @@
 use Rattle.std.specs.Prelude.{ℕ, ◌≤◌, ◌<◌, ◌^◌, ℤ, pos, ◌≤ℤ◌, negsuc, List, length, FitsSigned}
 use Rattle.std.specs.Int.{w8, w16, w32, w64}
 use Rattle.std.specs.Str.{IsUtf8}
+use Rattle.bl_outside.specs.Texts.{IsShortText}
 use Rattle.bl_value.specs.declared.value.Value.{Value}
 use Rattle.bl_value.specs.declared.value.Value.TheVariants.{Bool, Byte, Short, Int, Long, Str, Date}
 use Rattle.bl_value.specs.declared.change.Change.{Change}
@@ -18,11 +19,6 @@ pub record IsKey (text : List ℕ) : Type 0 where
   pub utf8 : IsUtf8 text
   pub some : 1 ≤ length text
   pub short : length text ≤ 256
-
--- the text of a value
-pub record IsShortText (text : List ℕ) : Type 0 where
-  pub utf8 : IsUtf8 text
-  pub short : length text < 2 ^ 32
 
 -- a date lies in the years 0000 to 9999
 abbrev pub IsDate : ℤ → Type 0

@@ -11,13 +11,18 @@ use crate::integer::{read_byte, read_int, read_long, read_short};
 use crate::{Value, ValueType};
 use bl_outside::{NoMemory, Text};
 use std::alloc::Global;
+use thiserror::Error;
 
 /// Why a cell has no value.
-#[derive(Clone, Copy, Debug, PartialEq, Eq)]
+#[derive(Clone, Copy, Debug, PartialEq, Eq, Error)]
 pub enum CellRefusal {
+    #[error("not UTF-8")]
     NotUtf8,
+    #[error("not of the column's type")]
     NotOfType,
+    #[error("outside the range of the column's type")]
     OutOfRange,
+    #[error("out of memory")]
     NoMemory,
 }
 
@@ -44,8 +49,8 @@ pub fn read_cell(alloc: Global, kind: ValueType, cell: &[u8]) -> Result<Value, C
     read_text(alloc, kind, cell)
 }
 
-// The value of a cell in UTF-8.
-fn read_text(alloc: Global, kind: ValueType, cell: &[u8]) -> Result<Value, CellRefusal>
+/// The value of a cell in UTF-8.
+pub fn read_text(alloc: Global, kind: ValueType, cell: &[u8]) -> Result<Value, CellRefusal>
     requires short { length cell.now < 2 ^ 32 }
     requires utf8 { IsUtf8 cell.now }
     ensures value { IfOk result (λ value. text_cell kind cell.now ≡ Ok value) }

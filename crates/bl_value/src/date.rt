@@ -8,7 +8,7 @@ ghost use Rattle.bl_value.specs.Valid.{IsValue};
 use crate::{CellRefusal, Value};
 use jiff_core::civil::Date;
 
-pub(crate) fn read_date(text: &[u8]) -> Result<Value, CellRefusal>
+pub fn read_date(text: &[u8]) -> Result<Value, CellRefusal>
     ensures value { result ≡ date text.now }
     ensures valid { IfOk result IsValue }
 {

@@ -1,6 +1,7 @@
 // Values in order, cells, arrays, JSON texts and copies.
 ghost use Rattle.std.specs.Prelude.{IfOk};
-ghost use Rattle.bl_value.specs.Valid.{IsPrintableValue, IsShortText};
+ghost use Rattle.bl_outside.specs.Texts.{IsShortText};
+ghost use Rattle.bl_value.specs.Valid.{IsPrintableValue};
 
 use crate::{
     CellRefusal, Change, Side, Value, ValueType, compare, copy_changes, is_empty_cell, items,
