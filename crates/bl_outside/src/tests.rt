@@ -202,7 +202,11 @@ fn changed(alloc: Global) -> Result<(List<u64>, u64), NoMemory> {
     list.extend([7, 8].as_slice())?;
     list.drop_front(2);
     list.truncate(4);
-    let old = if list.len() > 1 { list.replace(1, 40) } else { 0 };
+    let old = if list.len() > 1 {
+        list.replace(1, 40)
+    } else {
+        0
+    };
     Ok((list, old))
 }
 

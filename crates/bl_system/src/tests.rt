@@ -33,10 +33,7 @@ fn reader(stumbles: Stumbles) -> StumblingReader {
 }
 
 fn writer(stumbles: Stumbles) -> StumblingWriter {
-    StumblingWriter {
-        calls: 0,
-        stumbles,
-    }
+    StumblingWriter { calls: 0, stumbles }
 }
 
 // A part of a file is read to its end, and a fault in its midst is no end.
