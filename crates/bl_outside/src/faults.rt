@@ -2,7 +2,10 @@
 ghost use Rattle.std.specs.Prelude.{◌≡◌, OnOk, IsErrOf};
 ghost use Rattle.bl_outside.specs.Plans.{called, is_due, no_faults, one_more, plan_of};
 ghost use Rattle.bl_outside.specs.Counts.{HasDeviceCause};
-ghost use Rattle.bl_outside.specs.declared.refusals.Outside.TheVariants.{Failed as device_failed, NoMemory as out_of_memory};
+ghost use Rattle.bl_outside.specs.declared.refusals.Outside.TheVariants.{
+  Failed as device_failed,
+  NoMemory as out_of_memory,
+};
 
 use crate::{List, Outside};
 use std::alloc::Global;

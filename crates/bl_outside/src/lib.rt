@@ -3,12 +3,12 @@
 //! Bytes come in through a [`Source`] or a [`Folder`], go out through a [`Sink`], are kept on a
 //! [`Disk`], and the time comes from a [`Clock`]. Each of these traits but the clock has a count of
 //! faults that never falls, and `Failed` is answered only where it rose in the call. Each may tell
-//! its content, and what a call does to content that is told is exact. A disk also says what a crash
-//! may leave of it, at every moment.
+//! its content, and what a call does to content that is told is exact. A disk also says what a
+//! crash may leave of it, at every moment.
 //!
 //! The versions in memory tell all that they hold, and fail at the calls that they were told to.
-//! The small types that every crate uses stand here too: [`Text`], [`List`], [`Digest`], [`NoMemory`],
-//! and [`Steps`], a count of what was done.
+//! The small types that every crate uses stand here too: [`Text`], [`List`], [`Digest`],
+//! [`NoMemory`], and [`Steps`], a count of what was done.
 //!
 //! Words of the contracts: `specs/Counts`, `specs/Streams`, `specs/Folders`, `specs/Disks`.
 //! This crate stands on nothing but std.

@@ -68,7 +68,8 @@ impl Sink for MemorySink {
     fn put(&mut self, piece: &[u8]) -> Result<(), Failed>
         ensures bytes { Puts (Some self.old.written) (Some self.new.written) piece.now result }
         ensures cause { HasCause self.old.faults self.new.faults result }
-        ensures plan { IsPutByPlan self.old.plan self.new.plan self.old.faults self.new.faults result }
+        ensures plan { IsPutByPlan self.old.plan self.new.plan self.old.faults self.new.faults
+            result }
     {
         let fails = self.plan.next();
         let answer = put_on(&mut self.bytes, piece, fails);

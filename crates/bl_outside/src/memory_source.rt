@@ -56,7 +56,8 @@ impl Source for MemorySource {
         ensures bound { IfOk result (λ n. n ≤ length room.old) }
         ensures bytes { Takes (Some self.old.left) (Some self.new.left) result room.new }
         ensures cause { HasCause self.old.faults self.new.faults result }
-        ensures plan { IsPutByPlan self.old.plan self.new.plan self.old.faults self.new.faults result }
+        ensures plan { IsPutByPlan self.old.plan self.new.plan self.old.faults self.new.faults
+            result }
     {
         if self.plan.next() {
             self.faults = self.faults.saturating_add(1);
@@ -74,7 +75,8 @@ fn move_part(bytes: &Text, at: usize, piece: usize, room: &mut [u8]) -> usize
     requires within { at ≤ length bytes.now }
     ensures bound { (result ≤ length room.old) × (at + result ≤ length bytes.now) }
     ensures place { at + result < 2 ^ 64 }
-    ensures taken { Takes (Some (drop at bytes.now)) (Some (drop (at + result) bytes.now)) (Ok result) room.new }
+    ensures taken { Takes (Some (drop at bytes.now)) (Some (drop (at + result) bytes.now))
+        (Ok result) room.new }
 {
     let most = room.len().min(piece.max(1)).min(bytes.len() - at);
     room[..most].copy_from_slice(&bytes.as_slice()[at..at + most]);

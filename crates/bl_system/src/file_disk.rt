@@ -15,7 +15,8 @@ pub struct FileDisk<R: Files> {
     faults: u64,
 }
 
-// Syncs a folder, which keeps the names of what lies in it. The empty path is where the program runs.
+// Syncs a folder, which keeps the names of what lies in it. The empty path is where the program
+// runs.
 fn sync_folder<R: Files>(system: &R, folder: &str) -> Option<()> {
     let path = if folder.is_empty() { "." } else { folder };
     File::open(system, path).ok()?.sync_all().ok()
