@@ -11,3 +11,6 @@ pub mod MemoryDisks
 pub mod MemoryLaws
 pub mod Stops
 pub mod OrderedSet
+pub mod Listeners
+pub mod MemoryListeners
+pub mod Sound
