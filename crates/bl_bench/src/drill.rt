@@ -1,7 +1,8 @@
 // The drill's two files through every layer: read, digested, converted, admitted, encoded and
 // appended to a journal over a disk in memory.
-ghost use Rattle.std.specs.Prelude.{◌≡◌, ◌≤◌, ◌<◌, ◌+◌, ◌^◌, length, List as Items, ℕ, IfSome, OnSome};
+ghost use Rattle.std.specs.Prelude.{◌≡◌, ◌≤◌, ◌<◌, ◌^◌, length, IfSome, OnSome};
 ghost use Rattle.bl_value.specs.ValidColumns.{IsColumns};
+ghost use Rattle.bl_entry.specs.Valid.{IsEntry};
 ghost use Rattle.bl_graph.specs.ValidChanges.{HasValidValues};
 ghost use Rattle.bl_job.specs.Batched.{AreValidRows};
 ghost use Rattle.bl_journal.specs.Journals.{IsAtEnd};
@@ -22,13 +23,114 @@ use std::alloc::Global;
 const BATCH_ROWS: usize = 1_000;
 
 /// What a drill did.
-#[derive(Drop)]
+#[derive(Clone, Copy, Debug, PartialEq, Eq)]
 pub struct Drilled {
-    pub graph: Graph,
     pub rows: u64,
     pub changes: u64,
     pub duplicates: u64,
     pub refused: u64,
     pub batches: u64,
+    /// The place of the journal's last gate.
     pub bytes: u64,
+    /// Vertices, edges and values of the graph.
+    pub sizes: (u64, u64, u64),
+}
+
+// The request of a load that goes on after errors.
+fn request(alloc: Global) -> Option<LoadRequest> {
+    Some(LoadRequest {
+        source: Text::of_str(alloc, "s3://drill/load").ok()?,
+        format: 0,
+        mode: Mode::New,
+        fail_on_error: false,
+        update_single: false,
+        parallelism: 2,
+        queue: false,
+        dependencies: List::new(alloc),
+    })
+}
+
+// The next rows of a file, as many as make a batch.
+fn next_rows(alloc: Global, columns: &Columns, reader: &mut RowReader) -> Option<List<DigestRow>>
+    requires { IsColumns columns.now }
+    ensures rows { IfSome result AreValidRows }
+    ensures few { IfSome result (λ rows. length rows ≤ 1000) }
+{
+    let mut rows = List::with_capacity(alloc, BATCH_ROWS).ok()?;
+    for _ in 0..BATCH_ROWS {
+        let Some(fields) = reader.next().ok()? else {
+            break;
+        };
+        let row = convert(alloc, columns, &fields).ok()?;
+        let digest = reader.digest();
+        rows.push(DigestRow { row, digest }).ok()?;
+    }
+    Some(rows)
+}
+
+// The entry of a batch, whose digest is the one behind its last row.
+fn entry_of(from: u64, digest: Digest, made: BatchResult) -> Entry {
+    Entry::Batch {
+        moment: 0,
+        job: 1,
+        feed: 1,
+        from,
+        rows: made.rows,
+        digest,
+        duplicates: made.duplicates,
+        logs: made.logs,
+        changes: made.changes,
+    }
+}
+
+/// A graph, the journal of its batches, and what was done.
+#[derive(Drop)]
+struct Drill {
+    alloc: Global,
+    graph: Graph,
+    journal: Journal<MemoryDisk>,
+    done: Drilled,
+}
+
+impl Drill {
+    // A journal without entries, at whose end batches may be appended.
+    fn new(alloc: Global) -> Option<Drill>
+        ensures values { IfSome result (λ it. HasValidValues it.graph) }
+        ensures at_end { IfSome result (λ it. IsAtEnd ⟦<MemoryDisk as Disk>⟧ it.journal) }
+    {
+        let disk = MemoryDisk::new(alloc, Text::new(alloc), Faults::none(alloc)).ok()?;
+        let Ok(mut journal) = Journal::begin(alloc, disk) else {
+            return None;
+        };
+        let Ok(None) = journal.next() else {
+            return None;
+        };
+        Some(Drill {
+            alloc,
+            graph: Graph::empty(alloc, 0),
+            journal,
+            done: Drilled {
+                rows: 0,
+                changes: 0,
+                duplicates: 0,
+                refused: 0,
+                batches: 0,
+                bytes: 0,
+                sizes: (0, 0, 0),
+            },
+        })
+    }
+
+    // Counts a batch.
+    fn count(&mut self, made: &BatchResult) -> Option<()>
+        ensures { (self.new.graph ≡ self.old.graph) × (self.new.journal ≡ self.old.journal) }
+    {
+        let done = &mut self.done;
+        done.rows = done.rows.checked_add(u64::from(made.rows))?;
+        done.duplicates = done.duplicates.checked_add(u64::from(made.duplicates))?;
+        done.refused = done.refused.checked_add(made.logs.len() as u64)?;
+        done.changes = done.changes.checked_add(made.changes.len() as u64)?;
+        done.batches = done.batches.checked_add(1)?;
+        Some(())
+    }
 }

@@ -1,8 +1,9 @@
 // A connection in memory.
-ghost use Rattle.std.specs.Prelude.{◌≡◌, Some, drop};
+ghost use Rattle.std.specs.Prelude.{◌≡◌, Some};
 ghost use Rattle.std.proofs.Common.{ap};
 
 use crate::{Failed, Link, MemorySink, MemorySource, Sink, Source, Text};
+use std::marker::Model;
 
 /// Both directions in memory, each with its own plan of faults.
 #[derive(Drop)]
@@ -11,23 +12,31 @@ pub struct MemoryLink {
     output: MemorySink,
 }
 
+impl Model for MemoryLink {
+    ghost use Rattle.bl_outside.specs.MemoryListeners.{LinkRecord};
+
+    ghost Value = { LinkRecord };
+
+    ghost view = { λ link. record { input = link.input; output = link.output } };
+}
+
 impl MemoryLink {
     pub fn new(input: MemorySource, output: MemorySink) -> MemoryLink
-        ensures { (result.input ≡ input) × (result.output ≡ output) }
+        ensures { result ≡ record { input = input; output = output } }
     {
         MemoryLink { input, output }
     }
 
     /// What was written to it.
     pub fn written(&self) -> &Text
-        ensures { result.now ≡ self.now.output.bytes }
+        ensures { result.now ≡ self.now.output.written }
     {
         self.output.bytes()
     }
 }
 
 impl Source for MemoryLink {
-    ghost left = { λ link. Some (drop link.input.at link.input.bytes) };
+    ghost left = { λ link. Some link.input.left };
 
     ghost faults = { λ link. link.input.faults };
 
@@ -39,7 +48,7 @@ impl Source for MemoryLink {
 }
 
 impl Sink for MemoryLink {
-    ghost written = { λ link. Some link.output.bytes };
+    ghost written = { λ link. Some link.output.written };
 
     ghost faults = { λ link. link.output.faults };
 
@@ -52,8 +61,8 @@ impl Sink for MemoryLink {
 
 impl Link for MemoryLink {
     ghost take_keeps = { λ old new same.
-        (ap (λ sink. Some sink.bytes) same, ap (λ sink. sink.faults) same) };
+        (ap (λ sink. Some sink.written) same, ap (λ sink. sink.faults) same) };
 
     ghost put_keeps = { λ old new same.
-        (ap (λ source. Some (drop source.at source.bytes)) same, ap (λ source. source.faults) same) };
+        (ap (λ source. Some source.left) same, ap (λ source. source.faults) same) };
 }

@@ -1,11 +1,13 @@
 // A listener in memory.
 ghost use Rattle.std.specs.Prelude.{◌≡◌, [], ◌∷◌, ◌++◌, OnOk, OnErr};
+ghost use Rattle.bl_outside.specs.MemoryListeners.{no_links};
 
 use crate::{
     Faults, Listener, MemoryLink, MemorySink, MemorySource, NoMemory, Outside, Text, counted,
 };
 use std::alloc::Global;
 use std::collections::VecDeque;
+use std::marker::Model;
 
 /// A connection that is still to come: its input, the size of the pieces in which it is given, and
 /// the plans of faults of its two directions.
@@ -26,9 +28,17 @@ pub struct MemoryListener {
     faults: u64,
 }
 
+impl Model for MemoryListener {
+    ghost use Rattle.bl_outside.specs.MemoryListeners.{ListenerRecord};
+
+    ghost Value = { ListenerRecord };
+
+    ghost view = { λ l. record { ready = l.ready.items; done = l.done.items; faults = l.faults } };
+}
+
 impl MemoryListener {
     pub fn new(alloc: Global) -> MemoryListener
-        ensures { (result.ready.items ≡ []) × (result.done.items ≡ []) × (result.faults ≡ 0) }
+        ensures { result ≡ no_links }
     {
         MemoryListener {
             alloc,
@@ -40,8 +50,8 @@ impl MemoryListener {
 
     /// Adds a connection behind those that are still to come.
     pub fn prepare(&mut self, link: PreparedLink) -> Result<(), NoMemory>
-        ensures ok { OnOk result (self.new.ready.items ≡ self.old.ready.items ++ link ∷ []) }
-        ensures err { OnErr result (self.new.ready.items ≡ self.old.ready.items) }
+        ensures ok { OnOk result (self.new.ready ≡ self.old.ready ++ link ∷ []) }
+        ensures err { OnErr result (self.new.ready ≡ self.old.ready) }
         ensures others { (self.new.done ≡ self.old.done) × (self.new.faults ≡ self.old.faults) }
     {
         self.ready.push_back(link)?;
@@ -50,7 +60,7 @@ impl MemoryListener {
 
     /// What was handed back, in order.
     pub fn handed_back(&self) -> &[MemoryLink]
-        ensures { result.now ≡ self.now.done.items }
+        ensures { result.now ≡ self.now.done }
     {
         self.done.as_slice()
     }
@@ -62,9 +72,9 @@ impl Listener for MemoryListener {
 
     type Conn = MemoryLink;
 
-    ghost coming = { λ listener. Some (map (λ link. link.input) listener.ready.items) };
+    ghost coming = { λ listener. Some (map (λ link. link.input) listener.ready) };
 
-    ghost retired = { λ listener. Some (map handed listener.done.items) };
+    ghost retired = { λ listener. Some (map handed listener.done) };
 
     ghost faults = { λ listener. listener.faults };
 
