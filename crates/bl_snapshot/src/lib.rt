@@ -20,3 +20,6 @@ mod snapshot;
 
 pub use slots::Slots;
 pub use snapshot::Snapshot;
+
+#[cfg(test)]
+mod tests;
