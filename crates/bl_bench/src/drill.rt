@@ -134,3 +134,42 @@ impl Drill {
         Some(())
     }
 }
+
+impl Drill {
+    // Admits the rows, and appends the entry of what they came to.
+    fn commit(&mut self, request: &LoadRequest, from: u64, rows: &List<DigestRow>, digest: Digest) -> Option<()>
+        requires few { length rows.now ≤ 1000 }
+        requires rows { AreValidRows rows.now }
+        requires values { HasValidValues self.old.graph }
+        requires at_end { IsAtEnd ⟦<MemoryDisk as Disk>⟧ self.old.journal }
+        ensures values { OnSome result (HasValidValues self.new.graph) }
+        ensures at_end { OnSome result (IsAtEnd ⟦<MemoryDisk as Disk>⟧ self.new.journal) }
+    {
+        let made = batch(self.alloc, &mut self.graph, request, rows).ok()?;
+        self.count(&made)?;
+        let bytes = entry_bytes(self.alloc, from, digest, made)?;
+        self.journal.append(bytes.as_slice()).ok()?;
+        Some(())
+    }
+
+    // Takes the records of a file, batch by batch.
+    fn load(&mut self, request: &LoadRequest, file: FileBytes) -> Option<()>
+        requires file { length file.bytes ≤ 268435456 }
+        requires values { HasValidValues self.old.graph }
+        requires at_end { IsAtEnd ⟦<MemoryDisk as Disk>⟧ self.old.journal }
+        ensures values { OnSome result (HasValidValues self.new.graph) }
+        ensures at_end { OnSome result (IsAtEnd ⟦<MemoryDisk as Disk>⟧ self.new.journal) }
+    {
+        let mut reader = start(self.alloc, file).ok()?;
+        let columns = read_header(self.alloc, reader.header()).ok()?;
+        for _ in 0..u64::MAX {
+            let from = reader.taken();
+            let rows = next_rows(self.alloc, &columns, &mut reader)?;
+            if rows.is_empty() {
+                break;
+            }
+            self.commit(request, from, &rows, reader.digest())?;
+        }
+        Some(())
+    }
+}

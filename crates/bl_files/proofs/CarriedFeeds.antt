@@ -14,10 +14,11 @@ use Rattle.bl_files.specs.declared.feed.Feed.{Feed}
 use Rattle.bl_files.specs.declared.found.Found.{Found}
 use Rattle.bl_files.specs.declared.feed_kind.FeedKind.{FeedKind}
 use Rattle.bl_files.specs.declared.feed_kind.FeedKind.TheVariants.{Vertex, Edge, Refused}
-use Rattle.bl_files.specs.Carried.{AreCarried, AreFeeds, DifferentNames, EndsRefused, HasKept, IsCarriedFeed, feed_cmp, feed_names, found_names, is_completed, is_kept, kept, new_feed}
+use Rattle.bl_files.specs.Carried.{AreCarried, AreFeeds, DifferentNames, EndsRefused, HasKept, IsCarriedFeed, feed_cmp, feed_names, found_names, is_kept, kept, new_feed}
+use Rattle.bl_files.specs.Statuses.{is_completed}
 use Rattle.bl_files.specs.Collected.{collected, has_kept, kept_feeds, new_files}
 use Rattle.bl_files.proofs.Members.{later_member, first_member, selected, select}
-use Rattle.bl_files.proofs.FeedOrder.{placed, placed_permutes, placed_strict, strictly}
+use Rattle.bl_files.proofs.FeedOrder.{placed, placed_permutes, placed_strict, same_members, strictly}
 
 not_true : {P : Type 0} → false ≡ true → P
 not_true h = absurd (cc)
@@ -188,3 +189,11 @@ module _ (previous : List Feed) (found : List Found) (are : AreFeeds previous) (
   carried_there =
       let same : IsPermutation (collected previous found) (placed (collected previous found)) = placed_permutes (collected previous found) in
       (placed (collected previous found), carried_by _ same (placed_strict _ (names_differ previous found are.names apart)), length_permutation _ _ same)
+
+  -- what is carried on are the feeds of a job
+  pub carried_feeds : (feeds : List Feed) → AreCarried previous found feeds → AreFeeds feeds
+  carried_feeds feeds carried =
+      let same : IsPermutation (collected previous found) (placed (collected previous found)) = placed_permutes (collected previous found) in
+      let one : AreCarried previous found (placed (collected previous found)) = carried_by _ same (placed_strict _ (names_differ previous found are.names apart)) in
+      subst AreFeeds (same_members (placed (collected previous found)) feeds one.ordered carried.ordered (λ f h. (carried.each f).1 ((one.each f).0 h)) (λ f h. (one.each f).1 ((carried.each f).0 h)))
+      (feeds_again (placed (collected previous found)) same)

@@ -1,5 +1,8 @@
-mod Members
-mod FeedOrder
-mod CarriedFeeds
+pub mod Members
+pub mod FeedOrder
+pub mod CarriedFeeds
+mod CarriedNumbers
+mod RisingNames
 mod TestFeeds
 mod Parts
+mod KeptSources

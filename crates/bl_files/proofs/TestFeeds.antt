@@ -1,19 +1,12 @@
 -- What the tests hand in may be handed in.
-use Rattle.std.specs.Prelude.{◌≡◌, ◌+◌, ◌<◌, ℕ, nat_eq, false, List, [], ◌∷◌, length}
-use Rattle.std.proofs.Common.{sym, ap, subst, ◌∙◌, arith, get_or}
-use Rattle.std.specs.declared.cmp.Ordering.TheVariants.{Less}
-use Rattle.std.specs.Ordering.{nat_cmp}
-use Rattle.std.specs.Cmp.Lexicographic.{pointwise, slice_cmp}
+use Rattle.std.specs.Prelude.{◌≡◌, ℕ, nat_eq, false, List, [], ◌∷◌}
+use Rattle.std.proofs.Common.{sym, ap, subst, ◌∙◌}
+use Rattle.std.specs.Cmp.Lexicographic.{pointwise}
 use Rattle.std.specs.List.{IsDistinct}
-use Rattle.std.proofs.lemmas.Cmp.{nat_list_cmp_total}
-use Rattle.std.proofs.lemmas.List.{get_or-map, length-map}
 use Rattle.std.proofs.lemmas.List.Elements.{All-nil, All-cons}
-use Rattle.std.proofs.lemmas.Map.Keys.{sorted_from_all_adjacent}
-use Rattle.bl_outside.proofs.Names.{distinct_texts}
 use Rattle.bl_files.specs.declared.feed.Feed.{Feed}
-use Rattle.bl_files.specs.declared.found.Found.{Found}
 use Rattle.bl_files.specs.declared.feed_kind.FeedKind.TheVariants.{Vertex}
-use Rattle.bl_files.specs.Carried.{AreFeeds, DifferentNames, EndsRefused, found_names}
+use Rattle.bl_files.specs.Carried.{AreFeeds, EndsRefused}
 
 pub none_are_feeds : AreFeeds []
 unfolding IsDistinct
@@ -33,16 +26,3 @@ three_feeds a b c m n o an bn cn ak bk ck mn mo other =
       names = ((apart a.name b.name m n an bn mn, (apart a.name c.name m o an cn mo, tt)), ((apart b.name c.name n o bn cn other, tt), (tt, tt)));
       refused = All-cons (λ (f : Feed). EndsRefused f.kind f) a (b ∷ c ∷ []) (read a ak) (All-cons (λ (f : Feed). EndsRefused f.kind f) b (c ∷ []) (read b bk) (All-cons (λ (f : Feed). EndsRefused f.kind f) c [] (read c ck) (All-nil (λ (f : Feed). EndsRefused f.kind f))));
     }
-
-name_at : (found : List Found) (k : ℕ) (d : Found) → k < length found → get_or (found_names found) k d.name ≡ (get_or found k d).name
-name_at found k d within = get_or-map (λ (f : Found). f.name) found k d d.name within
-
-pub rising : (found : List Found) → ((k : ℕ) (d : Found) → k + 1 < length found → slice_cmp nat_cmp (get_or found k d).name (get_or found (k + 1) d).name ≡ Less) → DifferentNames (found_names found)
-unfolding IsDistinct
-rising [] up = tt
-rising (file ∷ found) up =
-    distinct_texts (found_names (file ∷ found)) (sorted_from_all_adjacent nat_list_cmp_total (found_names (file ∷ found)) file.name (λ k within.
-    let all : k + 1 < length (file ∷ found) = subst (λ n. k + 1 < n) (length-map (file ∷ found) (λ (f : Found). f.name)) within in
-    ap (λ n. slice_cmp nat_cmp n (get_or (found_names (file ∷ found)) (k + 1) file.name)) (name_at (file ∷ found) k file (omega arith))
-    ∙ ap (λ n. slice_cmp nat_cmp (get_or (file ∷ found) k file).name n) (name_at (file ∷ found) (k + 1) file all)
-    ∙ up k file all))

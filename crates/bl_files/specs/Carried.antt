@@ -1,5 +1,5 @@
 -- The feeds of a new job: those that are kept of the previous load, and the files that were found besides.
-use Rattle.std.specs.Prelude.{◌≡◌, ℕ, ◌≤◌, ◌<◌, nat_lt, nat_eq, Bool, true, false, if◌then◌else◌, ◌||◌, ◌↔◌, ◌⊎◌, List, [], map, length, Result, Ok, Err, Some, None}
+use Rattle.std.specs.Prelude.{◌≡◌, ℕ, ◌≤◌, ◌<◌, nat_lt, nat_eq, Bool, true, if◌then◌else◌, ◌||◌, ◌↔◌, ◌⊎◌, List, [], map, length, Result, Ok, Err, Some, None}
 use Rattle.std.specs.declared.option.Option.{Option}
 use Rattle.std.specs.declared.cmp.Ordering.{Ordering}
 use Rattle.std.specs.Ordering.{nat_cmp, ordering_then}
@@ -11,23 +11,14 @@ use Rattle.bl_files.specs.declared.log.Log.{Log}
 use Rattle.bl_files.specs.declared.feed_kind.FeedKind.{FeedKind}
 use Rattle.bl_files.specs.declared.feed_kind.FeedKind.TheVariants.{Vertex, Edge, Refused}
 use Rattle.bl_files.specs.declared.feed_status.FeedStatus.{FeedStatus}
-use Rattle.bl_files.specs.declared.feed_status.FeedStatus.TheVariants.{NotStarted, InProgress, Completed, Failed, ReadError, Modified, CancelledDueToErrors, CancelledByUser}
+use Rattle.bl_files.specs.declared.feed_status.FeedStatus.TheVariants.{NotStarted, Completed, Failed}
 use Rattle.bl_files.specs.declared.found.Found.{Found}
 use Rattle.bl_files.specs.declared.feed.Feed.{Feed}
 use Rattle.bl_files.specs.declared.carrying.CarryRefusal.{CarryRefusal}
 use Rattle.bl_files.specs.declared.carrying.CarryRefusal.TheVariants.{TooMany, NoMemory}
+use Rattle.bl_files.specs.Statuses.{is_completed}
 
 -- ---- a previous feed
-
-abbrev pub is_completed : FeedStatus → Bool
-is_completed Completed = true
-is_completed NotStarted = false
-is_completed InProgress = false
-is_completed Failed = false
-is_completed ReadError = false
-is_completed Modified = false
-is_completed CancelledDueToErrors = false
-is_completed CancelledByUser = false
 
 -- a feed is kept where it is completed or has records taken
 abbrev pub is_kept : Feed → Bool
@@ -99,10 +90,18 @@ pub record AreCarried (previous : List Feed) (found : List Found) (carried : Lis
   pub each : (feed : Feed) → Contains carried feed ↔ IsCarriedFeed previous found feed
   pub ordered : IsStrictlySortedBy feed_cmp carried
 
--- there are at most 4,096 of them, or they are too many
+-- the most files that a job may have
+abbrev pub most_files : ℕ
+most_files = 4096
+
+-- so many of them go on
+abbrev pub CarriedNumber : List Feed → List Found → ℕ → Type 0
+CarriedNumber previous found n = (carried : List Feed) × AreCarried previous found carried × (length carried ≡ n)
+
+-- there are at most so many of them, or they are too many
 abbrev pub Carries : List Feed → List Found → Result (List Feed) CarryRefusal → Type 0
-Carries previous found (Ok carried) = AreCarried previous found carried × (length carried ≤ 4096)
-Carries previous found (Err (TooMany n)) = (carried : List Feed) × AreCarried previous found carried × (length carried ≡ n) × (4096 < n)
+Carries previous found (Ok carried) = AreCarried previous found carried × (length carried ≤ most_files)
+Carries previous found (Err (TooMany n)) = (carried : List Feed) × AreCarried previous found carried × (length carried ≡ n) × (most_files < n)
 Carries previous found (Err NoMemory) = Unit {0}
 
 -- ---- the feeds of a job

@@ -1,5 +1,5 @@
 -- The source of a load: the text `s3://`, a bucket, then nothing, or a slash and a key.
-use Rattle.std.specs.Prelude.{ℕ, ◌==◌, ◌-◌, nat_le, nat_eq, Bool, not, ◌&&◌, ◌||◌, if◌then◌else◌, codes, List, [], ◌∷◌, ◌++◌, length, take, drop, slice_index, None, Some}
+use Rattle.std.specs.Prelude.{ℕ, ◌==◌, ◌-◌, nat_le, nat_eq, Bool, not, ◌&&◌, ◌||◌, if◌then◌else◌, codes, option_map, List, [], ◌∷◌, ◌++◌, length, take, drop, slice_index, None, Some}
 use Rattle.std.specs.declared.option.Option.{Option}
 use Rattle.std.specs.List.{list_all, list_any, starts_with, ends_with, before_first, after_first}
 use Rattle.std.specs.Str.{is_utf8}
@@ -61,7 +61,9 @@ path_behind rest =
 abbrev pub path_of : List ℕ → Option (List ℕ)
 path_of source = if starts_with nat_eq source (codes "s3://") then path_behind (drop 5 source) else None
 
--- A source as it is kept has no slash at its end.
+-- A source is kept without one slash at its end.
+abbrev pub kept_source : List ℕ → Option (List ℕ)
+kept_source source = option_map (λ path. codes "s3://" ++ path) (path_of source)
 
 -- A key has at most 1,024 bytes, and is empty or made of such parts.
 abbrev pub is_kept_key : List ℕ → Bool

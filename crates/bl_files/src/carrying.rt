@@ -1,26 +1,57 @@
 // The feeds that go on from one load to the next.
-ghost use Rattle.std.specs.Prelude.{◌≡◌, ◌++◌, ◌<◌, ◌^◌, ℕ, List as Items, not, map, filter, length, count_by, IfOk, OnOk};
+ghost use Rattle.std.specs.Prelude.{
+  ◌≡◌,
+  ◌+◌,
+  ◌++◌,
+  ◌<◌,
+  ◌^◌,
+  ℕ,
+  List as Items,
+  not,
+  map,
+  filter,
+  length,
+  count_by,
+  IfOk,
+  OnOk,
+};
 ghost use Rattle.std.specs.List.Sorted.{IsPermutation, IsSorted};
 ghost use Rattle.std.specs.Ordering.{nat_cmp};
 ghost use Rattle.std.specs.Cmp.Lexicographic.{slice_cmp};
 ghost use Rattle.std.specs.BTreeSet.{contains};
-ghost use Rattle.bl_files.specs.Carried.{AreCarried, AreFeeds, Carries, DifferentNames, feed_cmp, found_names, is_kept, new_feed};
+ghost use Rattle.bl_files.specs.Carried.{
+  AreCarried,
+  AreFeeds,
+  CarriedNumber,
+  Carries,
+  DifferentNames,
+  feed_cmp,
+  found_names,
+  is_kept,
+  new_feed,
+};
 ghost use Rattle.bl_files.specs.Collected.{collected, has_kept, kept_feeds, new_files};
-ghost use Rattle.bl_files.specs.declared.carrying.CarryRefusal.TheVariants.{NoMemory as out_of_memory};
+ghost use Rattle.bl_files.specs.declared.carrying.CarryRefusal.TheVariants.{
+  NoMemory as out_of_memory,
+};
 
 use crate::{Feed, Found};
 use bl_outside::{List, NoMemory, Text};
 use std::alloc::{AllocError, AllocFailed, Global};
 use std::collections::BTreeSet;
+use thiserror::Error;
 
 /// The most files that a job may have.
 pub const MOST_FILES: u64 = 4096;
 
 /// Why there are no feeds.
-#[derive(Clone, Copy, Debug, PartialEq, Eq)]
+#[derive(Clone, Copy, Debug, PartialEq, Eq, Error)]
 pub enum CarryRefusal {
-    /// There would be so many, and they may be 4,096.
+    /// There would be so many, which is more than `MOST_FILES`.
+    #[error("the load would have {0} files")]
     TooMany(u64),
+    /// There was no memory for them.
+    #[error("out of memory")]
     NoMemory,
 }
 
@@ -46,7 +77,7 @@ pub fn carry(
     ensures feeds { IfOk result AreFeeds }
 {
     let names = kept_names(alloc, previous)?;
-    let number = kept_count(previous) + new_count(found, &names);
+    let number = number_with(previous, found, &names);
     if number > MOST_FILES {
         return Err(CarryRefusal::TooMany(number));
     }
@@ -54,9 +85,32 @@ pub fn carry(
     Ok(List::from_vec(feeds))
 }
 
+/// How many feeds a new job would have. None of them is made.
+pub fn carried_number(
+    alloc: Global,
+    previous: &List<Feed>,
+    found: &List<Found>,
+) -> Result<u64, NoMemory>
+    requires previous { AreFeeds previous.now }
+    requires found { DifferentNames (found_names found.now) }
+    ensures { IfOk result (CarriedNumber previous.now found.now) }
+{
+    let names = kept_names(alloc, previous)?;
+    Ok(number_with(previous, found, &names))
+}
+
+// How many feeds are kept, and how many are new beside these names.
+fn number_with(previous: &List<Feed>, found: &List<Found>, names: &BTreeSet<Text>) -> u64
+    ensures { result ≡ count_by is_kept previous.now
+        + count_by (λ file. not (contains (slice_cmp nat_cmp) names.now file.name)) found.now }
+{
+    kept_count(previous) + new_count(found, names)
+}
+
 // The names of the feeds that are kept.
 fn kept_names(alloc: Global, previous: &List<Feed>) -> Result<BTreeSet<Text>, NoMemory>
-    ensures { IfOk result (λ names. (name : Items ℕ) → contains (slice_cmp nat_cmp) names name ≡ has_kept previous.now name) }
+    ensures { IfOk result (λ names.
+        (name : Items ℕ) → contains (slice_cmp nat_cmp) names name ≡ has_kept previous.now name) }
 {
     let mut names = BTreeSet::new(alloc);
     for feed in previous.as_slice() {
@@ -79,7 +133,8 @@ fn kept_count(previous: &List<Feed>) -> u64
 }
 
 fn new_count(found: &List<Found>, names: &BTreeSet<Text>) -> u64
-    ensures count { result ≡ count_by (λ file. not (contains (slice_cmp nat_cmp) names.now file.name)) found.now }
+    ensures count { result
+        ≡ count_by (λ file. not (contains (slice_cmp nat_cmp) names.now file.name)) found.now }
     ensures bound { result < 2 ^ 63 }
 {
     found
@@ -96,7 +151,10 @@ fn collect(
     found: &List<Found>,
     names: &BTreeSet<Text>,
 ) -> Result<Vec<Feed>, NoMemory>
-    ensures { IfOk result (λ feeds. feeds.items ≡ kept_feeds previous.now ++ map new_feed (filter (λ file. not (contains (slice_cmp nat_cmp) names.now file.name)) found.now)) }
+    ensures { IfOk result (λ feeds.
+        feeds.items ≡ kept_feeds previous.now
+        ++ map new_feed
+        (filter (λ file. not (contains (slice_cmp nat_cmp) names.now file.name)) found.now)) }
 {
     let mut feeds = Vec::new(alloc);
     push_kept(alloc, previous, &mut feeds)?;
@@ -121,7 +179,11 @@ fn push_new(
     names: &BTreeSet<Text>,
     feeds: &mut Vec<Feed>,
 ) -> Result<(), NoMemory>
-    ensures { OnOk result (feeds.new.items ≡ feeds.old.items ++ map new_feed (filter (λ file. not (contains (slice_cmp nat_cmp) names.now file.name)) found.now)) }
+    ensures { OnOk result
+        (feeds.new.items
+        ≡ feeds.old.items
+        ++ map new_feed
+        (filter (λ file. not (contains (slice_cmp nat_cmp) names.now file.name)) found.now)) }
 {
     for file in found.as_slice() {
         if !names.contains(&file.name) {

@@ -1,6 +1,6 @@
 // What a code of a log counts as.
 ghost use Rattle.std.specs.Prelude.{◌≡◌};
-ghost use Rattle.bl_files.specs.Codes.{class_of, is_row_code};
+ghost use Rattle.bl_files.specs.Codes.{class_of, is_file_code, is_row_code};
 
 use crate::ErrorClass;
 use bl_value::LogCode;
@@ -30,16 +30,26 @@ pub fn class_of(code: LogCode) -> Option<ErrorClass>
 pub fn is_row_code(code: LogCode) -> bool
     ensures { result ≡ is_row_code code }
 {
-    match code {
+    !matches!(
+        code,
         LogCode::Header
-        | LogCode::Compressed
-        | LogCode::ReadFault
-        | LogCode::FileTooLarge
-        | LogCode::FeedModified
-        | LogCode::SourceNotFound
-        | LogCode::ListFault
-        | LogCode::TooManyFiles
-        | LogCode::NoPreviousLoad => false,
-        _ => true,
-    }
+            | LogCode::Compressed
+            | LogCode::ReadFault
+            | LogCode::FileTooLarge
+            | LogCode::FeedModified
+            | LogCode::SourceNotFound
+            | LogCode::ListFault
+            | LogCode::TooManyFiles
+            | LogCode::NoPreviousLoad
+    )
+}
+
+/// A file isn't read at all for this code.
+pub fn is_file_code(code: LogCode) -> bool
+    ensures { result ≡ is_file_code code }
+{
+    matches!(
+        code,
+        LogCode::Header | LogCode::Compressed | LogCode::FileTooLarge
+    )
 }

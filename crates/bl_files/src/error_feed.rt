@@ -9,13 +9,13 @@ use std::alloc::Global;
 /// A log that a user is shown.
 #[derive(Clone, Copy, Debug, PartialEq, Eq)]
 pub struct ErrorEntry {
-    /// The place of its file among the job's, counted from 0; none where it is the job's own.
+    /// The place of its file among the job's, counted from 1; none where it is the job's own.
     pub feed: Option<usize>,
     pub log: Log,
 }
 
-/// All logs of a job: file by file those of its records and then its end log, and last the job's own
-/// end log.
+/// All logs of a job: file by file those of its records and then its end log, and last the job's
+/// own end log.
 pub fn all_errors(
     alloc: Global,
     feeds: &List<Feed>,
@@ -25,7 +25,7 @@ pub fn all_errors(
 {
     let mut errors = List::new(alloc);
     for (place, feed) in feeds.as_slice().iter().enumerate() {
-        push_errors(&mut errors, place, feed)?;
+        push_errors(&mut errors, place + 1, feed)?;
     }
     push_end(&mut errors, None, end_log)?;
     Ok(errors)
@@ -48,7 +48,9 @@ fn push_end(
     feed: Option<usize>,
     end_log: Option<Log>,
 ) -> Result<(), NoMemory>
-    ensures { OnOk result (errors.new ≡ errors.old ++ map (λ log. record { feed = feed; log = log }) (option_to_list end_log)) }
+    ensures { OnOk result
+        (errors.new ≡ errors.old
+        ++ map (λ log. record { feed = feed; log = log }) (option_to_list end_log)) }
 {
     if let Some(log) = end_log {
         errors.push(ErrorEntry { feed, log })?;

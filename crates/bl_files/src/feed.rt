@@ -1,6 +1,15 @@
 // A file of a job.
 ghost use Rattle.std.specs.Prelude.{◌≡◌, IfOk};
-ghost use Rattle.bl_files.specs.Carried.{feed_cmp, first_log, first_status, is_completed, is_kept, kept, kept_status, kind_place, new_feed};
+ghost use Rattle.bl_files.specs.Carried.{
+  feed_cmp,
+  first_log,
+  first_status,
+  is_kept,
+  kept,
+  kept_status,
+  kind_place,
+  new_feed,
+};
 
 use crate::{Counts, FeedKind, FeedStatus, Found, Log, copy_logs};
 use bl_outside::{Digest, List, NoMemory, Text};
@@ -47,7 +56,7 @@ impl Feed {
     pub fn is_kept(&self) -> bool
         ensures { result ≡ is_kept self.now }
     {
-        is_completed(self.status) || self.taken > 0
+        self.status.is_completed() || self.taken > 0
     }
 
     /// The same file in a later job.
@@ -87,19 +96,10 @@ impl Feed {
     }
 }
 
-fn is_completed(status: FeedStatus) -> bool
-    ensures { result ≡ is_completed status }
-{
-    match status {
-        FeedStatus::Completed => true,
-        _ => false,
-    }
-}
-
 fn kept_status(status: FeedStatus) -> FeedStatus
     ensures { result ≡ kept_status status }
 {
-    if is_completed(status) {
+    if status.is_completed() {
         FeedStatus::Completed
     } else {
         FeedStatus::NotStarted
@@ -142,7 +142,7 @@ fn kind_place(kind: FeedKind) -> u8
 pub fn copy_feeds(alloc: Global, feeds: &List<Feed>) -> Result<List<Feed>, NoMemory>
     ensures { IfOk result (λ copy. copy ≡ feeds.now) }
 {
-    let mut copy = List::new(alloc);
+    let mut copy = List::with_capacity(alloc, feeds.len())?;
     for feed in feeds.as_slice() {
         copy.push(feed.copy(alloc)?)?;
     }

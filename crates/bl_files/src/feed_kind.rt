@@ -1,4 +1,8 @@
 // What a file is about.
+ghost use Rattle.std.specs.Prelude.{◌≡◌};
+ghost use Rattle.bl_files.specs.Codes.{has_file_code};
+
+use crate::is_file_code;
 use bl_value::LogCode;
 
 /// Whether a file is about vertices or about edges, or why it isn't read at all.
@@ -6,6 +10,18 @@ use bl_value::LogCode;
 pub enum FeedKind {
     Vertex,
     Edge,
-    /// The code, and the column of a refused header, else 0.
+    /// The code, one of those of files, and the column of a refused header, else 0.
     Refused(LogCode, u32),
+}
+
+impl FeedKind {
+    /// Where the file isn't read, it is for the code of a file.
+    pub fn has_file_code(self) -> bool
+        ensures { result ≡ has_file_code self }
+    {
+        match self {
+            FeedKind::Vertex | FeedKind::Edge => true,
+            FeedKind::Refused(code, _) => is_file_code(code),
+        }
+    }
 }

@@ -1,4 +1,6 @@
 // How far a file of a job is.
+ghost use Rattle.std.specs.Prelude.{◌≡◌};
+ghost use Rattle.bl_files.specs.Statuses.{has_ended, is_completed, is_failed, is_open};
 
 /// The status of a file of a job (Neptune User Guide, "Loader Get-Status responses").
 #[derive(Clone, Copy, Debug, PartialEq, Eq)]
@@ -19,4 +21,34 @@ pub enum FeedStatus {
     CancelledDueToErrors,
     /// The job was cancelled.
     CancelledByUser,
+}
+
+impl FeedStatus {
+    /// A file of this status hasn't ended.
+    pub fn is_open(self) -> bool
+        ensures { result ≡ is_open self }
+    {
+        matches!(self, FeedStatus::NotStarted | FeedStatus::InProgress)
+    }
+
+    /// It has.
+    pub fn has_ended(self) -> bool
+        ensures { result ≡ has_ended self }
+    {
+        !self.is_open()
+    }
+
+    /// All its records were taken.
+    pub fn is_completed(self) -> bool
+        ensures { result ≡ is_completed self }
+    {
+        matches!(self, FeedStatus::Completed)
+    }
+
+    /// A record or the file itself was refused.
+    pub fn is_failed(self) -> bool
+        ensures { result ≡ is_failed self }
+    {
+        matches!(self, FeedStatus::Failed)
+    }
 }

@@ -32,7 +32,7 @@ impl Found {
 pub fn copy_found(alloc: Global, found: &List<Found>) -> Result<List<Found>, NoMemory>
     ensures { IfOk result (λ copy. copy ≡ found.now) }
 {
-    let mut copy = List::new(alloc);
+    let mut copy = List::with_capacity(alloc, found.len())?;
     for file in found.as_slice() {
         copy.push(file.copy(alloc)?)?;
     }

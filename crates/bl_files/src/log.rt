@@ -5,6 +5,9 @@ use bl_outside::{List, NoMemory};
 use bl_value::LogCode;
 use std::alloc::Global;
 
+/// The most logs of records that a job keeps.
+pub const MOST_LOGS: usize = 10000;
+
 /// Why a record was refused, or how a file or a job ended.
 #[derive(Clone, Copy, Debug, PartialEq, Eq)]
 pub struct Log {
@@ -19,5 +22,7 @@ pub struct Log {
 pub fn copy_logs(alloc: Global, logs: &List<Log>) -> Result<List<Log>, NoMemory>
     ensures { IfOk result (λ copy. copy ≡ logs.now) }
 {
-    Ok(List::from_vec(Vec::from_slice(alloc, logs.as_slice())?))
+    let mut copy = List::new(alloc);
+    copy.extend(logs.as_slice())?;
+    Ok(copy)
 }

@@ -1,6 +1,14 @@
 // What is shown of files and jobs.
 ghost use Rattle.std.specs.Prelude.{◌≡◌, ◌+◌};
-ghost use Rattle.bl_files.specs.Shown.{end_counts, end_records, of_class, shown, shown_counts, shown_sum, totals};
+ghost use Rattle.bl_files.specs.Shown.{
+  end_counts,
+  end_records,
+  of_class,
+  shown,
+  shown_counts,
+  shown_sum,
+  totals,
+};
 
 use crate::{Counts, ErrorClass, Feed, Log, class_of, is_row_code};
 use bl_outside::List;

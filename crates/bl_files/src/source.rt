@@ -1,8 +1,27 @@
 // The source of a load, and the path that a folder is asked for.
-ghost use Rattle.std.specs.Prelude.{◌≡◌, ◌==◌, position, IfOk, IfSome};
+ghost use Rattle.std.specs.Prelude.{◌≡◌, ◌==◌, ◌++◌, true, codes, position, IfOk, IfSome};
 ghost use Rattle.std.specs.Str.{IsUtf8};
 ghost use Rattle.std.specs.List.{after_first, before_first, list_all};
-ghost use Rattle.bl_files.specs.Sources.{begins_well, if_text, is_bucket, is_bucket_byte, is_kept_key, is_kept_path, is_kept_source, is_key, is_letter_or_digit, is_part, is_slash, joined, kept_key, parts, path_behind, path_of};
+ghost use Rattle.bl_outside.specs.Texts.{IsShortText};
+ghost use Rattle.bl_files.specs.Sources.{
+  begins_well,
+  if_text,
+  is_bucket,
+  is_bucket_byte,
+  is_kept_key,
+  is_kept_path,
+  is_kept_source,
+  is_key,
+  is_letter_or_digit,
+  is_part,
+  is_slash,
+  joined,
+  kept_key,
+  kept_source,
+  parts,
+  path_behind,
+  path_of,
+};
 
 use bl_outside::{NoMemory, Text, is_utf8};
 use std::alloc::Global;
@@ -139,6 +158,26 @@ pub fn path_of(alloc: Global, source: &[u8]) -> Result<Option<Text>, NoMemory>
         Some(rest) => path_behind(alloc, rest),
         None => Ok(None),
     }
+}
+
+/// The source as it is kept: without a slash at its end. None where the text is no source.
+pub fn kept_source(alloc: Global, source: &[u8]) -> Result<Option<Text>, NoMemory>
+    ensures source { IfOk result (λ kept. kept ≡ kept_source source.now) }
+    ensures kept { IfOk result (λ kept. IfSome kept (λ text. is_kept_source text ≡ true)) }
+    ensures text { IfOk result (λ kept. IfSome kept IsShortText) }
+{
+    match path_of(alloc, source)? {
+        Some(path) => Ok(Some(with_scheme(alloc, &path)?)),
+        None => Ok(None),
+    }
+}
+
+fn with_scheme(alloc: Global, path: &Text) -> Result<Text, NoMemory>
+    ensures { IfOk result (λ source. source ≡ codes "s3://" ++ path.now) }
+{
+    let mut source = Text::of_str(alloc, "s3://")?;
+    source.extend(path.as_slice())?;
+    Ok(source)
 }
 
 fn is_kept_key(key: &[u8]) -> bool

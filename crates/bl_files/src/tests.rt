@@ -1,10 +1,12 @@
 // Feeds that are carried on, sums, and the logs of a job.
-ghost use Rattle.std.specs.Prelude.{◌≡◌, IfOk, IsTrue};
-ghost use Rattle.bl_files.specs.Carried.{AreFeeds, DifferentNames, found_names};
+ghost use Rattle.std.specs.Prelude.{◌≡◌, IfOk};
+ghost use Rattle.bl_files.specs.Carried.{AreFeeds};
 
+use crate::plan_result::names_rise;
 use crate::{
-    CarryRefusal, Counts, ErrorClass, Feed, FeedKind, FeedStatus, Found, Log, all_errors, carry,
-    class_of, is_row_code, shown_counts, totals,
+    CarryRefusal, Counts, ErrorClass, Feed, FeedKind, FeedStatus, Found, LoadRequest, Log, Mode,
+    PlanResult, all_errors, carried_number, carry, class_of, is_kept_source, is_row_code,
+    kept_source, shown_counts, totals,
 };
 use bl_outside::{Digest, List, NoMemory, Text};
 use bl_value::LogCode;
@@ -57,19 +59,6 @@ fn one_log(alloc: Global, code: LogCode) -> Result<List<Log>, NoMemory> {
     Ok(logs)
 }
 
-// The names rise, so they differ.
-fn found_rise(found: &List<Found>) -> bool
-    ensures { IsTrue result → DifferentNames (found_names found.now) }
-{
-    let files = found.as_slice();
-    for i in 1..files.len() {
-        if !files[i - 1].name.cmp(&files[i].name).is_lt() {
-            return false;
-        }
-    }
-    true
-}
-
 // Three feeds: one completed with 3 records, one that failed with none, one with a record that is
 // no longer found.
 fn last_load(alloc: Global) -> Result<List<Feed>, NoMemory>
@@ -101,7 +90,7 @@ fn files(alloc: Global) -> Result<List<Found>, NoMemory> {
 fn feeds_go_on_with_what_they_have(rt: HostRuntime) {
     let previous = last_load(rt.alloc()).expect(&rt, "memory");
     let found = files(rt.alloc()).expect(&rt, "memory");
-    assert!(rt; found_rise(&found));
+    assert!(rt; names_rise(found.as_slice()));
     let carried = carry(rt.alloc(), &previous, &found).expect(&rt, "memory");
     assert!(rt; carried.len() == 5);
     let names: [&[u8]; 5] = [b"d", b"a", b"c", b"gone", b"b"];
@@ -148,14 +137,14 @@ fn many(alloc: Global, number: u32) -> Result<List<Found>, NoMemory> {
 fn a_load_has_at_most_4096_files(rt: HostRuntime) {
     let none = no_feeds(rt.alloc());
     let found = many(rt.alloc(), 4096).expect(&rt, "memory");
-    assert!(rt; found_rise(&found));
+    assert!(rt; names_rise(found.as_slice()));
     let Ok(carried) = carry(rt.alloc(), &none, &found) else {
         assert!(rt; false);
         return;
     };
     assert!(rt; carried.len() == 4096);
     let found = many(rt.alloc(), 4097).expect(&rt, "memory");
-    assert!(rt; found_rise(&found));
+    assert!(rt; names_rise(found.as_slice()));
     let Err(refusal) = carry(rt.alloc(), &none, &found) else {
         assert!(rt; false);
         return;
@@ -183,7 +172,7 @@ fn the_end_log_is_shown_with_the_rest(rt: HostRuntime) {
     let Some(sixth) = errors.get(5) else {
         return;
     };
-    assert!(rt; sixth.feed == Some(2) && sixth.log.code == LogCode::FromMissing);
+    assert!(rt; sixth.feed == Some(3) && sixth.log.code == LogCode::FromMissing);
     let Some(last) = errors.get(6) else {
         return;
     };
@@ -201,4 +190,93 @@ fn codes_have_their_counters(rt: HostRuntime) {
             && is_row_code(LogCode::SingleConflict)
     );
     assert!(rt; class_of(LogCode::Compressed) == None);
+}
+
+#[test]
+fn the_number_of_files_is_known_before_they_are_made(rt: HostRuntime) {
+    let previous = last_load(rt.alloc()).expect(&rt, "memory");
+    let found = files(rt.alloc()).expect(&rt, "memory");
+    assert!(rt; names_rise(found.as_slice()));
+    assert!(rt; carried_number(rt.alloc(), &previous, &found) == Ok(5));
+}
+
+#[test]
+fn plans_are_looked_at(rt: HostRuntime) {
+    let good = PlanResult::Feeds(files(rt.alloc()).expect(&rt, "memory"));
+    assert!(rt; good.has_rising_names() && good.has_file_codes());
+    let mut twice = List::new(rt.alloc());
+    for name in [b"a".as_slice(), b"b".as_slice(), b"b".as_slice()] {
+        let refused = FeedKind::Refused(LogCode::ReadFault, 0);
+        twice
+            .push(file(rt.alloc(), name, refused).expect(&rt, "memory"))
+            .expect(&rt, "memory");
+    }
+    let bad = PlanResult::Feeds(twice);
+    assert!(rt; !bad.has_rising_names() && !bad.has_file_codes());
+    let none = PlanResult::NoPrevious;
+    assert!(rt; none.has_rising_names() && none.has_file_codes());
+    assert!(rt; FeedKind::Refused(LogCode::FileTooLarge, 0).has_file_code());
+}
+
+#[test]
+fn statuses_are_open_or_ended(rt: HostRuntime) {
+    for (status, open) in [
+        (FeedStatus::NotStarted, true),
+        (FeedStatus::InProgress, true),
+        (FeedStatus::Completed, false),
+        (FeedStatus::Failed, false),
+        (FeedStatus::ReadError, false),
+        (FeedStatus::Modified, false),
+        (FeedStatus::CancelledDueToErrors, false),
+        (FeedStatus::CancelledByUser, false),
+    ] {
+        assert!(rt; status.is_open() == open && status.has_ended() != open);
+        assert!(rt; status.is_completed() == (status == FeedStatus::Completed));
+        assert!(rt; status.is_failed() == (status == FeedStatus::Failed));
+    }
+}
+
+#[test]
+fn a_source_is_kept_without_a_slash_at_its_end(rt: HostRuntime) {
+    let sources: [(&[u8], Option<&[u8]>); 8] = [
+        (b"s3://b/k/", Some(b"s3://b/k")),
+        (b"s3://b/k", Some(b"s3://b/k")),
+        (b"s3://b/", Some(b"s3://b")),
+        (b"s3://b", Some(b"s3://b")),
+        (b"s3://b/k//", None),
+        (b"s3://b/../k", None),
+        (b"s3://B/k", None),
+        (b"http://b/k", None),
+    ];
+    for (source, expected) in sources {
+        let kept = kept_source(rt.alloc(), source).expect(&rt, "memory");
+        match (kept, expected) {
+            (Some(kept), Some(expected)) => {
+                assert!(rt; kept.as_slice() == expected && is_kept_source(kept.as_slice()));
+            }
+            (None, None) => {}
+            _ => assert!(rt; false),
+        }
+    }
+}
+
+#[test]
+fn a_request_is_copied(rt: HostRuntime) {
+    let mut dependencies = List::new(rt.alloc());
+    dependencies.push(7).expect(&rt, "memory");
+    let request = LoadRequest {
+        source: Text::of_str(rt.alloc(), "s3://b/k").expect(&rt, "memory"),
+        format: 0,
+        mode: Mode::Resume,
+        fail_on_error: true,
+        update_single: false,
+        parallelism: 2,
+        queue: true,
+        dependencies,
+    };
+    let copy = request.copy(rt.alloc()).expect(&rt, "memory");
+    assert!(rt; copy.source.as_slice() == b"s3://b/k".as_slice());
+    assert!(rt; copy.mode == Mode::Resume && copy.fail_on_error && !copy.update_single);
+    assert!(rt; copy.parallelism == 2 && copy.queue && copy.format == 0);
+    assert!(rt; copy.dependencies.as_slice() == [7].as_slice());
 }

@@ -1,9 +1,9 @@
 -- What a beginning finds at the head of a file, and what it makes of one that isn't finished.
-use Rattle.std.proofs.Common.{◌≡◌, inr, ⊎_elim, ℕ, suc, zero, ◌+◌, ◌<◌, ◌≤◌, Bool, true, false, is_some, List, [], ◌∷◌, ◌++◌, length, take, Some, None, refl, sym, ◌∙◌, ap, subst, arith}
+use Rattle.std.proofs.Common.{◌≡◌, inl, inr, ⊎_elim, ℕ, suc, zero, ◌+◌, ◌<◌, ◌≤◌, Bool, true, false, is_some, List, [], ◌∷◌, ◌++◌, length, take, Some, None, refl, sym, ◌∙◌, ap, subst, arith}
 use Rattle.std.specs.Prelude.{if◌then◌else◌, ◌==◌}
 use Rattle.std.specs.declared.option.Option.{Option}
 use Rattle.std.proofs.lemmas.Option.{none-some, same_Some}
-use Rattle.std.proofs.lemmas.Bool.{eqb-true}
+use Rattle.std.proofs.lemmas.Bool.{eqb-true, false≢true}
 use Rattle.std.proofs.lemmas.List.{append-nil, take-take, take_all, drop_all}
 use Rattle.bl_outside.specs.Disks.{overwritten, Torn, StepsTold, LeavesOnly, OfContent, AsBeforeOrTorn}
 use Rattle.bl_outside.specs.declared.disk.Disk.{Ghosts}
@@ -82,18 +82,39 @@ begins_old before seen size front told same sized read long none =
     let length_is : size ≡ length t.0 = of_told before t.0 length size t.1 sized in
     begins_at before seen t.0 t.0 t.1 (same ∙ t.1) refl (reach_head t.0 (omega arith) (head_same t.0 front (of_told before t.0 (λ content. take 16 content) front t.1 read) none))
 
+-- what is written over a file that isn't finished is a new file
+pub is_new : (before mid seen : Option (List ℕ)) (size : ℕ) → is_some before ≡ true → mid ≡ before → OfContent before length size → size ≤ 16 → StepsTold (λ o n. n ≡ overwritten o 0 new_file) mid seen → seen ≡ Some new_file
+is_new before mid seen size told same sized short steps =
+    let t = content_told before told in
+    let length_is : size ≡ length t.0 = of_told before t.0 length size t.1 sized in
+    told_written mid seen t.0 (λ o. overwritten o 0 new_file) (same ∙ t.1) steps ∙ ap (λ l. Some l) (over_new t.0 (omega arith))
+
 -- a new file, written over one that wasn't finished
 pub begins_new : (before mid seen : Option (List ℕ)) (size : ℕ) → is_some before ≡ true → mid ≡ before → OfContent before length size → size ≤ 16 → StepsTold (λ o n. n ≡ overwritten o 0 new_file) mid seen → Begins before seen
 begins_new before mid seen size told same sized short steps =
     let t = content_told before told in
     let length_is : size ≡ length t.0 = of_told before t.0 length size t.1 sized in
     begins_at before seen t.0 new_file t.1
-    (told_written mid seen t.0 (λ o. overwritten o 0 new_file) (same ∙ t.1) steps ∙ ap (λ l. Some l) (over_new t.0 (omega arith)))
+    (is_new before mid seen size told same sized short steps)
     (sym (short_frames t.0 (omega arith))) reach_new
 
 pub told_of : (seen : Option (List ℕ)) → IsMade seen → is_some seen ≡ true
 told_of None made = absurd made
 told_of (Some content) made = refl
+
+-- a long file is made
+pub is_long : (before : Option (List ℕ)) (size : ℕ) → is_some before ≡ true → OfContent before length size → 16 < size → IsMade before
+is_long None size told sized long = absurd (false≢true told)
+is_long (Some content) size told sized long = inl (omega arith)
+
+-- so is the head with a closed gate
+pub is_empty : (before : Option (List ℕ)) (size : ℕ) (front : List ℕ) → is_some before ≡ true → OfContent before length size → OfContent before (λ content. take 16 content) front → size ≤ 16 → IsEmptyJournal front → IsMade before
+is_empty None size front told sized read short empty = absurd (false≢true told)
+is_empty (Some content) size front told sized read short empty = inr (subst IsEmptyJournal (read ∙ take_all 16 content (omega arith)) empty)
+
+pub head_short : (before : Option (List ℕ)) (size : ℕ) → OfContent before length size → size ≤ 16 → HasHead before
+head_short None size sized short = tt
+head_short (Some content) size sized short = inl (omega arith)
 
 -- a file that isn't finished isn't made
 pub not_made : (before : Option (List ℕ)) (size : ℕ) (front : List ℕ) → OfContent before length size → OfContent before (λ content. take 16 content) front → size ≤ 16 → (IsEmptyJournal front → ⊥) → IsMade before → ⊥

@@ -1,7 +1,7 @@
 mod Emptiness
 mod Bytes
 mod Reaching
-mod Standing
+pub mod Standing
 mod Appending
 mod Calls
 mod Gates

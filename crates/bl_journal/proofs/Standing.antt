@@ -18,3 +18,10 @@ module _ {D : Type 0} (of : Ghosts D) where
   ends_has journal bodies e c now =
       ap frames (only_told (of.seen journal.disk) e.stands.content (of.may_leave journal.disk) e.stands.told e.settled.only c now)
       ∙ e.stands.reaches.own ∙ ap (λ (m : Found). prefixed bodies m) (sym e.stands.rest) ∙ prefix_none bodies
+
+  -- a call that leaves told and honest alone, and a write behind it, keep a disk sound
+  pub sound_written : (old mid new : D) → of.seen mid ≡ of.seen old → (of.honest mid ↔ of.honest old) → is_some (of.seen new) ≡ is_some (of.seen mid) → (of.honest new ↔ of.honest mid) → (IsSound of old ↔ IsSound of new)
+  sound_written old mid new seen honest told again = (
+    λ s. record { honest = again.1 (honest.1 s.honest); told = told ∙ ap is_some seen ∙ s.told },
+    λ s. record { honest = honest.0 (again.0 s.honest); told = sym (told ∙ ap is_some seen) ∙ s.told },
+  )

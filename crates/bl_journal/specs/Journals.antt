@@ -1,12 +1,13 @@
 -- A journal over its disk: what it has read, what lies ahead, and what a crash may leave.
-use Rattle.std.specs.Prelude.{◌≡◌, ◌⊎◌, ◌<◌, ◌≤◌, ◌+◌, ◌^◌, ℕ, true, is_some, List, [], ◌∷◌, ◌++◌, length, take, drop, None, Some, Result, Ok, Err, refl}
+use Rattle.std.specs.Prelude.{◌≡◌, ◌⊎◌, ◌↔◌, ◌<◌, ◌≤◌, ◌+◌, ◌^◌, ℕ, true, is_some, IfSome, IfNone, List, [], ◌∷◌, ◌++◌, length, take, drop, None, Some, Result, Ok, Err, refl}
 use Rattle.std.specs.Coded.{Coded, code_by, coded×, coded_ℕ}
 use Rattle.std.specs.declared.option.Option.{Option}
 pub use Rattle.bl_outside.specs.Sound.{IsSound, IsSettled, Since}
+use Rattle.bl_outside.specs.Counts.{Rose}
 use Rattle.bl_outside.specs.declared.disk.Disk.{Ghosts}
 use Rattle.bl_outside.specs.declared.journal_fault.JournalFault.{JournalFault}
 use Rattle.bl_outside.specs.declared.journal_fault.JournalFault.TheVariants.{StoreFault, NotAJournal, NoMemory}
-use Rattle.bl_journal.specs.Frames.{head, Found, prefixed, frames_at, frames, IsEmptyJournal}
+use Rattle.bl_journal.specs.Frames.{head, new_file, Found, prefixed, frames_at, frames, AsBefore, IsEmptyJournal}
 
 -- what contracts see of a journal: its disk, and the place of a gate
 pub record JournalRecord (D : Type 0) : Type 0 where
@@ -75,6 +76,26 @@ abbrev pub disk_after : {D : Type 0} → Result (JournalRecord D) (JournalFault 
 disk_after (Ok journal) = journal.disk
 disk_after (Err refusal) = refusal.1
 
+-- why there is no beginning, where there is none
+abbrev pub fault_after : {D : Type 0} → Result (JournalRecord D) (JournalFault × D) → Option JournalFault
+fault_after (Ok journal) = None
+fault_after (Err refusal) = Some refusal.0
+
+-- What a beginning finds and makes, over the disk before it and after it. None: it went well.
+pub record Opens {D : Type 0} (of : Ghosts D) (old new : D) (fault : Option JournalFault) : Type 0 where
+  -- Where nothing is written, the frames that lie ahead are known of every disk that tells.
+  pub begins : IfNone fault ((IsSound of old ⊎ IsMade (of.seen old)) → Begins (of.seen old) (of.seen new))
+  pub settled : IfNone fault (of.honest old → IsSettled of new)
+  pub head : IfNone fault (HasHead (of.seen old))
+  -- a file that isn't finished becomes a new one, and all others stay as they are
+  pub created : IfNone fault (IsSound of old → (¬ IsMade (of.seen old)) → of.seen new ≡ Some new_file)
+  pub untouched : IsMade (of.seen old) → of.seen new ≡ of.seen old
+  pub refused : IfSome fault (HeadFault (of.seen old))
+  pub store : fault ≡ Some StoreFault → Rose (of.faults old) (of.faults new)
+  pub any_moment : IsSound of old → Since of old new (AsBefore (of.may_leave old))
+  pub sound : IsSound of old ↔ IsSound of new
+  pub later : of.faults old ≤ of.faults new
+
 -- The first frame from a gate on, whatever stands before it: its body, the end, or no journal.
 abbrev pub FrameIs : Option (List ℕ) → ℕ → Result (Option (List ℕ)) JournalFault → Type 0
 FrameIs None gate result = Unit {0}
@@ -98,13 +119,17 @@ Moves old new (Ok (Some body)) = (new ≡ old + 5 + length body) × (0 < length 
 Moves old new (Ok None) = new ≡ old
 Moves old new (Err fault) = new ≡ old
 
+-- every gate stands below this place
+abbrev pub journal_limit : ℕ
+journal_limit = 2 ^ 40
+
 -- a frame with a body of this length fits behind the gate at the place
 abbrev pub HasRoom : ℕ → ℕ → Type 0
-HasRoom place n = (n < 2 ^ 32) × (place + 5 + n < 2 ^ 40)
+HasRoom place n = (n < 2 ^ 32) × (place + 5 + n < journal_limit)
 
 -- it doesn't
 abbrev pub IsFull : ℕ → ℕ → Type 0
-IsFull place n = (2 ^ 32 ≤ n) ⊎ (2 ^ 40 ≤ place + 5 + n)
+IsFull place n = (2 ^ 32 ≤ n) ⊎ (journal_limit ≤ place + 5 + n)
 
 abbrev pub body_at : ℕ → ℕ → List ℕ → List ℕ
 body_at place n content = take n (drop (place + 5) content)

@@ -1,5 +1,17 @@
 // One frame of a journal: a gate, four bytes of length, a body.
-ghost use Rattle.std.specs.Prelude.{◌≡◌, ◌↔◌, ◌+◌, ◌<◌, ◌≤◌, ◌^◌, length, IsTrue, IfOk, IsErrOf, IfSome};
+ghost use Rattle.std.specs.Prelude.{
+  ◌≡◌,
+  ◌↔◌,
+  ◌+◌,
+  ◌<◌,
+  ◌≤◌,
+  ◌^◌,
+  length,
+  IsTrue,
+  IfOk,
+  IsErrOf,
+  IfSome,
+};
 ghost use Rattle.bl_outside.specs.Counts.{Rose};
 ghost use Rattle.bl_journal.specs.Frames.{behind_gate, length_behind};
 ghost use Rattle.bl_journal.specs.Journals.{HasRoom};
@@ -7,11 +19,11 @@ ghost use Rattle.bl_journal.specs.Journals.{HasRoom};
 use bl_outside::NoMemory;
 use std::alloc::Global;
 
-/// The length of the longest body.
-const LONGEST_BODY: u64 = 4294967295;
+/// The length of the longest body, in bytes: 2^32 - 1.
+pub const LONGEST_BODY: u64 = 4294967295;
 
-/// Every gate stands below this place.
-const JOURNAL_LIMIT: u64 = 1 << 40;
+/// Every gate stands below this place of a journal: 2^40 bytes.
+pub const JOURNAL_LIMIT: u64 = 1 << 40;
 
 /// A frame with a body of this length fits behind the gate.
 pub fn has_room(gate: u64, length: usize) -> bool

@@ -1,9 +1,31 @@
 // A journal over a disk.
-ghost use Rattle.std.specs.Prelude.{◌≡◌, ◌⊎◌, ◌↔◌, ◌+◌, ◌<◌, ◌≤◌, ◌^◌, ◌∷◌, ◌++◌, [], List, ℕ, length, take, IfOk, OnOk, OnErr, IfErr, IfSome, IsErrOf};
+ghost use Rattle.std.specs.Prelude.{
+  ◌≡◌,
+  ◌⊎◌,
+  ◌↔◌,
+  ◌+◌,
+  ◌<◌,
+  ◌≤◌,
+  ◌^◌,
+  ◌∷◌,
+  ◌++◌,
+  [],
+  List,
+  ℕ,
+  length,
+  take,
+  IfOk,
+  OnOk,
+  OnErr,
+  IfErr,
+  IfSome,
+  IsErrOf,
+};
+ghost use Rattle.std.specs.Result.{result_err};
 ghost use Rattle.bl_outside.specs.Counts.{HasDeviceCause, Rose};
 ghost use Rattle.bl_outside.specs.Disks.{OfContent};
-ghost use Rattle.bl_journal.specs.Frames.{Found, AsBefore, WithOrWithout};
-ghost use Rattle.bl_journal.specs.Journals.{IsSound, IsSettled, Since, IsMade, Begins, HasHead, HeadFault, GateIs, FrameIs};
+ghost use Rattle.bl_journal.specs.Frames.{Found, WithOrWithout};
+ghost use Rattle.bl_journal.specs.Journals.{IsSound, IsSettled, Since, Opens, GateIs, FrameIs};
 
 use crate::AppendRefusal;
 use crate::frame::{bytes_behind_gate, has_room, is_whole, length_in};
@@ -52,18 +74,7 @@ fn settled_front<D: Disk>(disk: &mut D) -> Result<(u64, Text), Outside>
 
 // Settles the file, and checks its head, or writes it where the file isn't finished.
 fn open_file<D: Disk>(disk: &mut D) -> Result<(), JournalFault>
-    ensures begins { OnOk result ((IsSound ⟦<D as Disk>⟧ disk.old ⊎ IsMade (D.seen disk.old))
-        → Begins (D.seen disk.old) (D.seen disk.new)) }
-    ensures settled { OnOk result (D.honest disk.old → IsSettled ⟦<D as Disk>⟧ disk.new) }
-    ensures head { OnOk result (HasHead (D.seen disk.old)) }
-    ensures fault { IfErr result (HeadFault (D.seen disk.old)) }
-    ensures store { IsErrOf result JournalFault.StoreFault
-        → Rose (D.faults disk.old) (D.faults disk.new) }
-    ensures untouched { IsMade (D.seen disk.old) → D.seen disk.new ≡ D.seen disk.old }
-    ensures any_moment { IsSound ⟦<D as Disk>⟧ disk.old
-        → Since ⟦<D as Disk>⟧ disk.old disk.new (AsBefore (D.may_leave disk.old)) }
-    ensures sound { IsSound ⟦<D as Disk>⟧ disk.old ↔ IsSound ⟦<D as Disk>⟧ disk.new }
-    ensures later { D.faults disk.old ≤ D.faults disk.new }
+    ensures { Opens ⟦<D as Disk>⟧ disk.old disk.new (result_err result) }
 {
     let (size, front) = settled_front(disk)?;
     if size <= 16 {
@@ -133,25 +144,24 @@ fn frame_at<D: Disk>(disk: &mut D, gate: u64) -> Result<Option<Text>, JournalFau
 
 impl<D: Disk> Journal<D> {
     ghost use Rattle.std.specs.Prelude.{IsNone};
-    ghost use Rattle.bl_journal.specs.Journals.{Stands, Ends, IsAtGate, IsAtEnd, disk_after, NextIs, Moves, HasRoom, IsFull};
+    ghost use Rattle.bl_journal.specs.Journals.{
+      Stands,
+      Ends,
+      IsAtGate,
+      IsAtEnd,
+      disk_after,
+      fault_after,
+      NextIs,
+      Moves,
+      HasRoom,
+      IsFull,
+    };
 
     /// Begins over a disk. A refusal hands it back.
     pub fn begin(alloc: Global, disk: D) -> Result<Journal<D>, (JournalFault, D)>
-        ensures begins { IfOk result (λ journal. (IsSound ⟦<D as Disk>⟧ disk ⊎ IsMade (D.seen disk))
-            → Begins (D.seen disk) (D.seen journal.disk)) }
-        ensures settled { IfOk result (λ journal.
-            D.honest disk → IsSettled ⟦<D as Disk>⟧ journal.disk) }
-        ensures at_gate { IfOk result (IsAtGate ⟦<D as Disk>⟧) }
         ensures place { IfOk result (λ journal. journal.place ≡ 15) }
-        ensures head { OnOk result (HasHead (D.seen disk)) }
-        ensures fault { IfErr result (λ refusal. HeadFault (D.seen disk) refusal.0) }
-        ensures store { IfErr result (λ refusal.
-            refusal.0 ≡ JournalFault.StoreFault → Rose (D.faults disk) (D.faults refusal.1)) }
-        ensures untouched { IsMade (D.seen disk) → D.seen (disk_after result) ≡ D.seen disk }
-        ensures any_moment { IsSound ⟦<D as Disk>⟧ disk
-            → Since ⟦<D as Disk>⟧ disk (disk_after result) (AsBefore (D.may_leave disk)) }
-        ensures sound { IsSound ⟦<D as Disk>⟧ disk ↔ IsSound ⟦<D as Disk>⟧ (disk_after result) }
-        ensures later { D.faults disk ≤ D.faults (disk_after result) }
+        ensures at_gate { IfOk result (IsAtGate ⟦<D as Disk>⟧) }
+        ensures opens { Opens ⟦<D as Disk>⟧ disk (disk_after result) (fault_after result) }
     {
         let mut disk = disk;
         match open_file(&mut disk) {
@@ -168,25 +178,9 @@ impl<D: Disk> Journal<D> {
     ///
     /// It syncs before it reads, so an entry of unknown fate is kept or lost from then on.
     pub fn restart(&mut self) -> Result<(), JournalFault>
-        // Where nothing is written, the frames that lie ahead are known of every disk that tells.
-        ensures begins { OnOk result ((IsSound ⟦<D as Disk>⟧ self.old.disk ⊎ IsMade (D.seen self.old.disk))
-            → Begins (D.seen self.old.disk) (D.seen self.new.disk)) }
-        ensures settled { OnOk result (
-            D.honest self.old.disk → IsSettled ⟦<D as Disk>⟧ self.new.disk) }
-        ensures at_gate { OnOk result (IsAtGate ⟦<D as Disk>⟧ self.new) }
         ensures place { self.new.place ≡ 15 }
-
-        ensures head { OnOk result (HasHead (D.seen self.old.disk)) }
-        ensures fault { IfErr result (HeadFault (D.seen self.old.disk)) }
-        ensures store { IsErrOf result JournalFault.StoreFault
-            → Rose (D.faults self.old.disk) (D.faults self.new.disk) }
-
-        ensures untouched { IsMade (D.seen self.old.disk)
-            → D.seen self.new.disk ≡ D.seen self.old.disk }
-        ensures any_moment { IsSound ⟦<D as Disk>⟧ self.old.disk
-            → Since ⟦<D as Disk>⟧ self.old.disk self.new.disk (AsBefore (D.may_leave self.old.disk)) }
-        ensures sound { IsSound ⟦<D as Disk>⟧ self.old.disk ↔ IsSound ⟦<D as Disk>⟧ self.new.disk }
-        ensures later { D.faults self.old.disk ≤ D.faults self.new.disk }
+        ensures at_gate { OnOk result (IsAtGate ⟦<D as Disk>⟧ self.new) }
+        ensures opens { Opens ⟦<D as Disk>⟧ self.old.disk self.new.disk (result_err result) }
     {
         self.place = FIRST_GATE;
         open_file(&mut self.disk)?;
@@ -204,7 +198,8 @@ impl<D: Disk> Journal<D> {
     pub fn seek(&mut self, place: u64)
         requires from_first { 15 ≤ place }
         requires gate { IsSound ⟦<D as Disk>⟧ self.old.disk
-            → (done : List (List ℕ)) × (ahead : Found) × Stands (D.seen self.old.disk) place done ahead }
+            → (done : List (List ℕ)) × (ahead : Found)
+            × Stands (D.seen self.old.disk) place done ahead }
         ensures { self.new ≡ record { disk = self.old.disk; place = place } }
     {
         self.place = place;
@@ -255,7 +250,8 @@ impl<D: Disk> Journal<D> {
             → Ends ⟦<D as Disk>⟧ self.old bodies
             → Ends ⟦<D as Disk>⟧ self.new (bodies ++ body.now ∷ [])) }
         ensures at_end { OnOk result (IsAtEnd ⟦<D as Disk>⟧ self.new) }
-        // A crash at any moment of the call leaves the bodies from before it, with the new one or without.
+        // A crash at any moment of the call leaves the bodies from before it, with the new one or
+        // without.
         ensures any_moment { (bodies : List (List ℕ)) → Ends ⟦<D as Disk>⟧ self.old bodies
             → Since ⟦<D as Disk>⟧ self.old.disk self.new.disk (WithOrWithout bodies body.now) }
 

@@ -1,7 +1,7 @@
 //! A journal: a file of entries, of which a crash leaves each whole or not at all.
 //!
-//! A [`Journal`] stands over any `Disk`. Its one contract: an append that is cut short at any moment
-//! leaves a file with the entries from before, or with those and the new one, and once it has
+//! A [`Journal`] stands over any `Disk`. Its one contract: an append that is cut short at any
+//! moment leaves a file with the entries from before, or with those and the new one, and once it has
 //! answered `Ok` every later crash leaves the new one too. A beginning settles an entry of unknown
 //! fate, since it syncs before it reads. No checksum is trusted: a gate byte in front of each frame
 //! is closed on the disk before anything is written behind it, and is opened by a write of its own.
@@ -16,6 +16,7 @@ mod head;
 mod journal;
 mod refusal;
 
+pub use frame::{JOURNAL_LIMIT, LONGEST_BODY};
 pub use journal::Journal;
 pub use refusal::AppendRefusal;
 

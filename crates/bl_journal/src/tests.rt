@@ -89,6 +89,30 @@ fn frames_in(alloc: Global, bytes: &[u8]) -> Result<usize, JournalFault> {
     }
 }
 
+// The bytes of a file that a beginning leaves.
+fn begun(alloc: Global, bytes: &[u8]) -> Result<Text, JournalFault> {
+    let Ok(disk) = disk(alloc, bytes, Faults::none(alloc)) else {
+        return Err(JournalFault::NoMemory);
+    };
+    match Journal::begin(alloc, disk) {
+        Ok(journal) => Ok(journal.into_disk().read_at(0, 100)?),
+        Err((fault, _)) => Err(fault),
+    }
+}
+
+#[test]
+fn a_file_that_is_not_finished_becomes_a_new_one(rt: HostRuntime) {
+    let new = b"NEPTLOAD-JRNL-1\0".as_slice();
+    let files: [&[u8]; 4] = [b"", b"hello", b"NEPTLOAD-JRNL-1\x01", b"NEPTLOAD-JRNL-2\0"];
+    for file in files {
+        let begun = begun(rt.alloc(), file).expect(&rt, "a journal");
+        assert!(rt; begun.as_slice() == new);
+    }
+    let other = b"NEPTLOAD-JRNL-1\x07".as_slice();
+    let begun = begun(rt.alloc(), other).expect(&rt, "a journal");
+    assert!(rt; begun.as_slice() == other);
+}
+
 #[test]
 fn a_foreign_file_is_refused_at_its_place(rt: HostRuntime) {
     let alloc = rt.alloc();
@@ -104,7 +128,80 @@ fn a_foreign_file_is_refused_at_its_place(rt: HostRuntime) {
     assert!(rt; frames_in(alloc, ONE_FRAME) == Ok(1));
 }
 
-// Fails from this device call on, stops, and opens again: whether the append was acknowledged, and the frames then.
+// The first body of a file, and whether it is the only one.
+fn only_body(alloc: Global, bytes: &[u8]) -> Result<(Text, bool), JournalFault> {
+    let Ok(disk) = disk(alloc, bytes, Faults::none(alloc)) else {
+        return Err(JournalFault::NoMemory);
+    };
+    let mut journal = match Journal::begin(alloc, disk) {
+        Ok(journal) => journal,
+        Err((fault, _)) => return Err(fault),
+    };
+    let Some(body) = journal.next()? else {
+        return Err(JournalFault::NoMemory);
+    };
+    Ok((body, journal.next()?.is_none()))
+}
+
+#[test]
+fn a_frame_of_any_body_is_read(rt: HostRuntime) {
+    let file = b"NEPTLOAD-JRNL-1\x01\0\0\0\x01\xff\0";
+    let (body, only) = only_body(rt.alloc(), file).expect(&rt, "a frame");
+    assert!(rt; body.as_slice() == b"\xff".as_slice() && only);
+}
+
+// One device call fails, this one. 1 where the beginning answers so, 2 where the first reading does,
+// and whether the same call then answers as it should.
+fn read_with_fault(alloc: Global, call: u64) -> Result<(u32, bool), NoMemory> {
+    let mut fails = List::new(alloc);
+    fails.push(call)?;
+    let disk = disk(alloc, ONE_FRAME, Faults::of(fails, 0))?;
+    let (fault, disk) = match Journal::begin(alloc, disk) {
+        Ok(mut journal) => {
+            let fault = journal.next().err();
+            let again = matches!(journal.next(), Ok(Some(_)));
+            return Ok((
+                if fault == Some(JournalFault::StoreFault) {
+                    2
+                } else {
+                    0
+                },
+                again,
+            ));
+        }
+        Err(refusal) => refusal,
+    };
+    let again = Journal::begin(alloc, disk).is_ok();
+    Ok((
+        if fault == JournalFault::StoreFault {
+            1
+        } else {
+            0
+        },
+        again,
+    ))
+}
+
+// To begin takes a sync, a size and a reading; the first frame takes a size and two readings.
+#[test]
+fn each_device_call_that_fails_is_a_fault_of_the_store(rt: HostRuntime) {
+    for call in 1..4 {
+        assert!(rt;
+            read_with_fault(rt.alloc(), call) == Ok((1, true)),
+            "{call}"
+        );
+    }
+    for call in 4..7 {
+        assert!(rt;
+            read_with_fault(rt.alloc(), call) == Ok((2, true)),
+            "{call}"
+        );
+    }
+    assert!(rt; read_with_fault(rt.alloc(), 9) == Ok((0, false)));
+}
+
+// Fails from this device call on, stops, and opens again: whether the append was acknowledged, and
+// the frames then.
 fn after_stop(alloc: Global, from: u64, fill: Fill) -> Result<(bool, usize), NoMemory> {
     let plan = Faults::of(List::new(alloc), from);
     let (place, disk) = append(alloc, disk(alloc, ONE_FRAME, plan)?, b"new")?;
@@ -119,7 +216,8 @@ fn after_stop(alloc: Global, from: u64, fill: Fill) -> Result<(bool, usize), NoM
     Ok((place.is_some(), if kept { found.len() } else { 0 }))
 }
 
-// To begin takes 3 calls, the two readings take 3 and 2, and so the append's calls are those from 9 to 12.
+// To begin takes 3 calls, the two readings take 3 and 2, and so the append's calls are those from 9
+// to 12.
 #[test]
 fn an_append_that_is_cut_short_is_whole_or_not_at_all(rt: HostRuntime) {
     for fill in [Fill::Old, Fill::New, Fill::Ones] {

@@ -9,7 +9,7 @@ use Rattle.bl_queue.specs.declared.job.Job.{Job}
 use Rattle.bl_queue.specs.declared.job_status.JobStatus.{JobStatus}
 use Rattle.bl_queue.specs.declared.job_status.JobStatus.TheVariants.{NotStarted, InQueue, InProgress, Completed, CancelledByUser, Failed, DependencyNotSatisfied}
 use Rattle.bl_queue.specs.Statuses.{has_ended, has_failed, is_in_progress, is_in_queue, is_to_start}
-use Rattle.bl_queue.specs.Jobs.{HasCounts, IsNumbered, IsUnfailed, front_job, has_open, is_unended, number_in, waits}
+use Rattle.bl_queue.specs.Jobs.{IsFeed, IsNumbered, IsUnfailed, front_job, has_open, is_unended, number_in, waits}
 use Rattle.bl_queue.specs.Doomed.{called_up, with_front}
 use Rattle.bl_queue.proofs.FatedJobs.{AreSteady, count_cons}
 
@@ -140,7 +140,7 @@ module _ (last : ℕ) (jobs : List Job) (steady : AreSteady last jobs) where
     running = front_all (λ job. has_open job ≡ is_in_progress job.status) (λ job is. called (λ x. has_open x ≡ is_in_progress x.status) job (λ h. is ∙ queued_rests job.status h) is) jobs steady.running;
     fresh = front_fresh;
     feeds = front_all (λ job. AreFeeds job.feeds) (λ job is. called (λ x. AreFeeds x.feeds) job (λ h. is) is) jobs steady.feeds;
-    counts = front_all (λ job. All HasCounts job.feeds) (λ job is. called (λ x. All HasCounts x.feeds) job (λ h. is) is) jobs steady.counts;
+    each = front_all (λ job. All IsFeed job.feeds) (λ job is. called (λ x. All IsFeed x.feeds) job (λ h. is) is) jobs steady.each;
   }
 
   others_unfailed : (job : Job) → IsUnfailed jobs job → IsUnfailed (with_front jobs) job

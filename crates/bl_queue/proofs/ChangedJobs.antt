@@ -13,7 +13,7 @@ use Rattle.bl_queue.specs.declared.job.Job.{Job}
 use Rattle.bl_queue.specs.declared.job_status.JobStatus.{JobStatus}
 use Rattle.bl_queue.specs.declared.job_status.JobStatus.TheVariants.{NotStarted, InQueue, InProgress, Completed, CancelledByUser, Failed, DependencyNotSatisfied}
 use Rattle.bl_queue.specs.Statuses.{has_ended, has_failed, is_in_progress, is_to_start}
-use Rattle.bl_queue.specs.Jobs.{AreJobs, HasCounts, IsNumbered, IsUnfailed, Kept, front_job, has_open, is_unended, job_of, number_in, waits}
+use Rattle.bl_queue.specs.Jobs.{AreJobs, IsFeed, IsNumbered, IsUnfailed, Kept, front_job, has_open, is_unended, job_of, number_in, waits}
 use Rattle.bl_queue.specs.Changes.{ended_job, with_job}
 use Rattle.bl_queue.specs.Doomed.{IsSettled}
 use Rattle.bl_queue.proofs.DoomedJobs.{all_zip, dependency_stands}
@@ -32,7 +32,7 @@ steady_jobs kept are = record {
   running = are.running;
   fresh = are.fresh;
   feeds = are.feeds;
-  counts = are.counts;
+  each = are.each;
 }
 
 ended_rests : (s : JobStatus) → has_ended s ≡ true → is_in_progress s ≡ false
@@ -113,7 +113,7 @@ pub record IsChange (jobs : List Job) (old new : Job) : Type 0 where
   pub begun : is_to_start new.status ≡ false
   pub running : has_open new ≡ is_in_progress new.status
   pub feeds : AreFeeds new.feeds
-  pub counts : All HasCounts new.feeds
+  pub each : All IsFeed new.feeds
   -- it stays unended only where it is the first
   pub first : is_unended new ≡ true → All (λ job. job.number < old.number → is_unended job ≡ false) jobs
 
@@ -130,7 +130,7 @@ module _ (moment number : ℕ) (change : Job → Job) (kept : Kept) (are : AreJo
   is_old : (k : ℕ) (d : Job) → k < length kept.jobs → ((get_or kept.jobs k d).number == number) ≡ true → get_or kept.jobs k d ≡ old
   is_old k d below match = some_is (get_or kept.jobs k d) old (sym (found_at number kept.jobs are.rising k d below (eqb-true (get_or kept.jobs k d).number number match)) ∙ found)
 
-  change_at : (P : Job → Type 0) (k : ℕ) (d : Job) → k < length kept.jobs → (get_or kept.jobs k d ≡ old → P (change old)) → (((get_or kept.jobs k d).number == number) ≡ false → P (get_or kept.jobs k d)) → P (changed (get_or kept.jobs k d))
+  pub change_at : (P : Job → Type 0) (k : ℕ) (d : Job) → k < length kept.jobs → (get_or kept.jobs k d ≡ old → P (change old)) → (((get_or kept.jobs k d).number == number) ≡ false → P (get_or kept.jobs k d)) → P (changed (get_or kept.jobs k d))
   change_at P k d below new same =
       cond_both ((get_or kept.jobs k d).number == number) (change (get_or kept.jobs k d)) (get_or kept.jobs k d) P
       (λ match. let one = is_old k d below match in subst (λ x. P (change x)) (sym one) (new one)) same
@@ -147,10 +147,10 @@ module _ (moment number : ℕ) (change : Job → Job) (kept : Kept) (are : AreJo
   same_number : (k : ℕ) (d : Job) → k < length kept.jobs → (changed (get_or kept.jobs k d)).number ≡ (get_or kept.jobs k d).number
   same_number k d below = change_at (λ x. x.number ≡ (get_or kept.jobs k d).number) k d below (λ one. is.number ∙ ap (λ (x : Job). x.number) (sym one)) (λ other. refl)
 
-  same_id : (k : ℕ) (d : Job) → k < length kept.jobs → (changed (get_or kept.jobs k d)).id ≡ (get_or kept.jobs k d).id
+  pub same_id : (k : ℕ) (d : Job) → k < length kept.jobs → (changed (get_or kept.jobs k d)).id ≡ (get_or kept.jobs k d).id
   same_id k d below = change_at (λ x. x.id ≡ (get_or kept.jobs k d).id) k d below (λ one. is.id ∙ ap (λ (x : Job). x.id) (sym one)) (λ other. refl)
 
-  same_request : (k : ℕ) (d : Job) → k < length kept.jobs → (changed (get_or kept.jobs k d)).request ≡ (get_or kept.jobs k d).request
+  pub same_request : (k : ℕ) (d : Job) → k < length kept.jobs → (changed (get_or kept.jobs k d)).request ≡ (get_or kept.jobs k d).request
   same_request k d below = change_at (λ x. x.request ≡ (get_or kept.jobs k d).request) k d below (λ one. is.request ∙ ap (λ (x : Job). x.request) (sym one)) (λ other. refl)
 
   unended_before : (k : ℕ) (d : Job) → k < length kept.jobs → is_unended (changed (get_or kept.jobs k d)) ≡ true → is_unended (get_or kept.jobs k d) ≡ true
@@ -196,7 +196,7 @@ module _ (moment number : ℕ) (change : Job → Job) (kept : Kept) (are : AreJo
     running = change_all (λ job. has_open job ≡ is_in_progress job.status) is.running are.running;
     fresh = change_all (λ job. is_to_start job.status ≡ true → job.feeds ≡ []) (λ h. absurd (true≢false (sym h ∙ is.begun))) are.fresh;
     feeds = change_all (λ job. AreFeeds job.feeds) is.feeds are.feeds;
-    counts = change_all (λ job. All HasCounts job.feeds) is.counts are.counts;
+    each = change_all (λ job. All IsFeed job.feeds) is.each are.each;
   }
 
   -- a job in progress depends on none that ends now
@@ -248,6 +248,6 @@ end_change moment status log kept are old there closed ends = record {
   begun = ended_begun status ends;
   running = closed ∙ sym (ended_rests status ends);
   feeds = All-contains (λ job. AreFeeds job.feeds) kept.jobs old are.feeds there;
-  counts = All-contains (λ job. All HasCounts job.feeds) kept.jobs old are.counts there;
+  each = All-contains (λ job. All IsFeed job.feeds) kept.jobs old are.each there;
   first = λ unended. absurd (true≢false (sym unended ∙ ap not ends));
 }

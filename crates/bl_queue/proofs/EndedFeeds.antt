@@ -14,8 +14,8 @@ use Rattle.bl_files.specs.declared.feed_status.FeedStatus.{FeedStatus}
 use Rattle.bl_files.specs.declared.feed_status.FeedStatus.TheVariants.{CancelledDueToErrors}
 use Rattle.bl_files.specs.declared.log.Log.{Log}
 use Rattle.bl_files.specs.Carried.{AreFeeds, DifferentNames, EndsRefused, feed_names}
-use Rattle.bl_queue.specs.Statuses.{is_open}
-use Rattle.bl_queue.specs.Jobs.{HasCounts}
+use Rattle.bl_files.specs.Statuses.{is_open}
+use Rattle.bl_queue.specs.Jobs.{IsFeed}
 use Rattle.bl_queue.specs.Runs.{end_log, end_status, ended_feed, feeds_after, open_ended, stops, with_feed, with_open_ended}
 
 -- a file stays as it was, or it was open and has another status and end log
@@ -41,9 +41,9 @@ goes_refused : (old new : Feed) → Goes old new → EndsRefused old.kind old �
 goes_refused old new (inl same) h = subst (λ (f : Feed). EndsRefused f.kind f) (sym same) h
 goes_refused old new (inr how) h = subst (λ (f : Feed). EndsRefused f.kind f) (sym how.3) (refused_by old how.0 how.1 old.kind h how.2)
 
-goes_counts : (old new : Feed) → Goes old new → HasCounts old → HasCounts new
-goes_counts old new (inl same) h = subst HasCounts (sym same) h
-goes_counts old new (inr how) h = subst HasCounts (sym how.3) (record { taken = h.taken; records = h.records; duplicates = h.duplicates; parsing = h.parsing; datatype = h.datatype; insert = h.insert })
+goes_counts : (old new : Feed) → Goes old new → IsFeed old → IsFeed new
+goes_counts old new (inl same) h = subst IsFeed (sym same) h
+goes_counts old new (inr how) h = subst IsFeed (sym how.3) (record { kind = h.kind; taken = h.taken; records = h.records; duplicates = h.duplicates; parsing = h.parsing; datatype = h.datatype; insert = h.insert })
 
 module _ (P : Feed → Type 0) (step : (old new : Feed) → Goes old new → P old → P new) where
   goes_all : (olds news : List Feed) → AllZip Goes olds news → All P olds → All P news
@@ -58,8 +58,8 @@ still_feeds olds news zip are = record {
   refused = goes_all (λ f. EndsRefused f.kind f) goes_refused olds news zip are.refused;
 }
 
-pub still_counts : (olds news : List Feed) → AllZip Goes olds news → All HasCounts olds → All HasCounts news
-still_counts olds news zip all = goes_all HasCounts goes_counts olds news zip all
+pub still_counts : (olds news : List Feed) → AllZip Goes olds news → All IsFeed olds → All IsFeed news
+still_counts olds news zip all = goes_all IsFeed goes_counts olds news zip all
 
 pub open_goes : (status : FeedStatus) (feeds : List Feed) → AllZip Goes feeds (with_open_ended status feeds)
 open_goes status [] = tt
@@ -87,10 +87,10 @@ feeds_after_feeds fail_on_error how place feeds h are =
     (λ all. still_feeds (with_feed place (ended_feed how) feeds) (with_open_ended CancelledDueToErrors (with_feed place (ended_feed how) feeds)) (open_goes CancelledDueToErrors (with_feed place (ended_feed how) feeds)) one)
     (λ alone. one)
 
-pub feeds_after_counts : (fail_on_error : Bool) (how : FeedEnd) (place : ℕ) (feeds : List Feed) → IsSomeAnd (slice_get feeds place) (λ feed. is_open feed.status ≡ true) → All HasCounts feeds → All HasCounts (feeds_after fail_on_error place how feeds)
+pub feeds_after_counts : (fail_on_error : Bool) (how : FeedEnd) (place : ℕ) (feeds : List Feed) → IsSomeAnd (slice_get feeds place) (λ feed. is_open feed.status ≡ true) → All IsFeed feeds → All IsFeed (feeds_after fail_on_error place how feeds)
 feeds_after_counts fail_on_error how place feeds h are =
-    let one : All HasCounts (with_feed place (ended_feed how) feeds) = still_counts feeds (with_feed place (ended_feed how) feeds) (one_goes how place feeds h) are in
-    cond_both (stops fail_on_error how) (with_open_ended CancelledDueToErrors (with_feed place (ended_feed how) feeds)) (with_feed place (ended_feed how) feeds) (λ l. All HasCounts l)
+    let one : All IsFeed (with_feed place (ended_feed how) feeds) = still_counts feeds (with_feed place (ended_feed how) feeds) (one_goes how place feeds h) are in
+    cond_both (stops fail_on_error how) (with_open_ended CancelledDueToErrors (with_feed place (ended_feed how) feeds)) (with_feed place (ended_feed how) feeds) (λ l. All IsFeed l)
     (λ all. still_counts (with_feed place (ended_feed how) feeds) (with_open_ended CancelledDueToErrors (with_feed place (ended_feed how) feeds)) (open_goes CancelledDueToErrors (with_feed place (ended_feed how) feeds)) one)
     (λ alone. one)
 

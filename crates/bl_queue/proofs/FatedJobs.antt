@@ -10,7 +10,8 @@ use Rattle.bl_files.specs.Carried.{AreFeeds}
 use Rattle.bl_queue.specs.declared.job.Job.{Job}
 use Rattle.bl_queue.specs.declared.job_status.JobStatus.TheVariants.{InQueue}
 use Rattle.bl_queue.specs.Statuses.{has_failed, is_in_progress, is_to_start}
-use Rattle.bl_queue.specs.Jobs.{HasCounts, IsDependency, IsNumbered, IsUnfailed, has_open, is_unended, number_in, waits}
+use Rattle.bl_queue.specs.Limits.{most_queued}
+use Rattle.bl_queue.specs.Jobs.{IsFeed, IsDependency, IsNumbered, IsUnfailed, has_open, is_unended, number_in, waits}
 use Rattle.bl_queue.specs.Doomed.{IsDoomed, IsFate, LeadsToFailure, unsatisfied}
 use Rattle.bl_queue.specs.Pass.{AreOrdered}
 use Rattle.bl_queue.proofs.DoomedJobs.{dependency_stands, leads, not_failed, zip_at, zip_same}
@@ -20,12 +21,12 @@ pub record AreSteady (last : ℕ) (jobs : List Job) : Type 0 where
   pub rising : AllPairs (λ a b. a.number < b.number) jobs
   pub numbered : All (λ job. IsNumbered last job) jobs
   pub behind : AllPairs (λ a b. is_unended a ≡ true → is_unended b ≡ true → b.status ≡ InQueue) jobs
-  pub queued : count_by waits jobs ≤ 64
+  pub queued : count_by waits jobs ≤ most_queued
   pub earlier : All (λ job. is_unended job ≡ true → All (λ id. number_in id < job.number) job.request.dependencies) jobs
   pub running : All (λ job. has_open job ≡ is_in_progress job.status) jobs
   pub fresh : All (λ job. is_to_start job.status ≡ true → job.feeds ≡ []) jobs
   pub feeds : All (λ job. AreFeeds job.feeds) jobs
-  pub counts : All (λ job. All HasCounts job.feeds) jobs
+  pub each : All (λ job. All IsFeed job.feeds) jobs
 
 pub ordered : (last : ℕ) (jobs : List Job) → AreSteady last jobs → AreOrdered jobs
 ordered last jobs steady = record {
@@ -126,7 +127,7 @@ module _ (moment last : ℕ) (before : List Job) (steady : AreSteady last before
       running = fated_all (λ job. has_open job ≡ is_in_progress job.status) (λ job kept doomed is. is ∙ doomed_rests job kept doomed) steady.running;
       fresh = fated_all (λ job. is_to_start job.status ≡ true → job.feeds ≡ []) (λ job kept doomed is h. absurd (true≢false (sym h))) steady.fresh;
       feeds = fated_all (λ job. AreFeeds job.feeds) (λ job kept doomed is. is) steady.feeds;
-      counts = fated_all (λ job. All HasCounts job.feeds) (λ job kept doomed is. is) steady.counts;
+      each = fated_all (λ job. All IsFeed job.feeds) (λ job kept doomed is. is) steady.each;
     }
 
     unfailed_by : (old other new : Job) → is_unended old ≡ true → (¬ IsDoomed before old) → IsDependency before old other → IsFate moment before other new → (b : Bool) → has_failed new.status ≡ b → b ≡ false

@@ -1,5 +1,5 @@
 -- What the files of a job keep when rows of one of them are taken.
-use Rattle.std.specs.Prelude.{◌≡◌, ◌+◌, ◌<◌, ◌≤◌, ◌^◌, ℕ, true, ◌||◌, List, [], ◌∷◌, ◌++◌, length, slice_get, refl, All, Contains, IsSomeAnd, Some}
+use Rattle.std.specs.Prelude.{◌≡◌, ◌+◌, ◌<◌, ◌≤◌, ℕ, true, ◌||◌, List, [], ◌∷◌, length, slice_get, refl, All, Contains, IsSomeAnd, Some}
 use Rattle.std.proofs.Common.{sym, ap, subst, ◌∙◌, arith, suc, zero}
 use Rattle.std.specs.List.{AllZip, list_any}
 use Rattle.std.proofs.lemmas.Bool.{true≢false, or_right}
@@ -13,10 +13,12 @@ use Rattle.bl_files.specs.declared.log.Log.{Log}
 use Rattle.bl_files.specs.Carried.{AreFeeds, DifferentNames, EndsRefused, feed_names}
 use Rattle.bl_files.specs.Codes.{class_of}
 use Rattle.bl_queue.specs.declared.job.Job.{Job}
-use Rattle.bl_queue.specs.Statuses.{is_in_progress, is_open}
-use Rattle.bl_queue.specs.Jobs.{AreJobs, HasCounts, IsNumbered, Kept, front_job, has_open}
+use Rattle.bl_files.specs.Statuses.{is_open}
+use Rattle.bl_queue.specs.Statuses.{is_in_progress}
+use Rattle.bl_queue.specs.Limits.{record_limit}
+use Rattle.bl_queue.specs.Jobs.{AreJobs, IsFeed, IsNumbered, Kept, front_job, has_open}
 use Rattle.bl_queue.specs.Runs.{with_feed}
-use Rattle.bl_queue.specs.Rows.{MayFeed, MayTake, fed_feed, fed_job, is_datatype, is_insert, is_parsing, last_logs, logs_at}
+use Rattle.bl_queue.specs.Rows.{MayFeed, MayTake, fed_feed, fed_job, is_datatype, is_insert, is_parsing, last_logs}
 use Rattle.bl_queue.proofs.ChangedJobs.{IsChange, front_first, front_in}
 use Rattle.bl_queue.proofs.RunChanges.{running_begun}
 
@@ -24,7 +26,7 @@ use Rattle.bl_queue.proofs.RunChanges.{running_begun}
 record Follows (old new : Feed) : Type 0 where
   name : new.name ≡ old.name
   refused : EndsRefused old.kind old → EndsRefused new.kind new
-  counts : HasCounts old → HasCounts new
+  counts : IsFeed old → IsFeed new
 
 names_same : (olds news : List Feed) → AllZip Follows olds news → feed_names news ≡ feed_names olds
 names_same [] [] zip = refl
@@ -45,8 +47,8 @@ follow_feeds olds news zip are = record {
   refused = follows_all (λ f. EndsRefused f.kind f) (λ old new is h. is.refused h) olds news zip are.refused;
 }
 
-follow_counts : (olds news : List Feed) → AllZip Follows olds news → All HasCounts olds → All HasCounts news
-follow_counts olds news zip all = follows_all HasCounts (λ old new is h. is.counts h) olds news zip all
+follow_counts : (olds news : List Feed) → AllZip Follows olds news → All IsFeed olds → All IsFeed news
+follow_counts olds news zip all = follows_all IsFeed (λ old new is h. is.counts h) olds news zip all
 
 -- ---- the logs that stay
 
@@ -61,7 +63,7 @@ last_follow (feed ∷ feeds) = (
   record {
     name = refl;
     refused = λ h. logs_refused feed _ feed.kind h;
-    counts = λ h. record { taken = h.taken; records = h.records; duplicates = h.duplicates; parsing = h.parsing; datatype = h.datatype; insert = h.insert };
+    counts = λ h. record { kind = h.kind; taken = h.taken; records = h.records; duplicates = h.duplicates; parsing = h.parsing; datatype = h.datatype; insert = h.insert };
   },
   last_follow feeds,
 )
@@ -85,8 +87,9 @@ module _ (rows : ℕ) (digest : Digest) (duplicates : ℕ) (logs : List Log) (fe
   fed_refused feed Edge h still = tt
   fed_refused feed (Refused code column) h still = absurd (true≢false (sym still ∙ ap is_open h.0))
 
-  fed_counts : (feed : Feed) → feed.taken + rows < 2 ^ 48 → HasCounts feed → HasCounts (fed feed)
+  fed_counts : (feed : Feed) → feed.taken + rows < record_limit → IsFeed feed → IsFeed (fed feed)
   fed_counts feed room h = record {
+    kind = h.kind;
     taken = room;
     records = omega (arith, h.records);
     duplicates = omega (arith, h.duplicates);
@@ -95,25 +98,25 @@ module _ (rows : ℕ) (digest : Digest) (duplicates : ℕ) (logs : List Log) (fe
     insert = omega (arith, h.insert, count_by-le-length (λ (log : Log). is_insert (class_of log.code)) logs);
   }
 
-  fed_follow : (place : ℕ) (feeds : List Feed) → IsSomeAnd (slice_get feeds place) (λ feed. (is_open feed.status ≡ true) × (feed.taken + rows < 2 ^ 48)) → AllZip Follows feeds (with_feed place fed feeds)
+  fed_follow : (place : ℕ) (feeds : List Feed) → IsSomeAnd (slice_get feeds place) (λ feed. (is_open feed.status ≡ true) × (feed.taken + rows < record_limit)) → AllZip Follows feeds (with_feed place fed feeds)
   fed_follow place [] h = absurd h
   fed_follow zero (feed ∷ feeds) h = (record { name = refl; refused = λ r. fed_refused feed feed.kind r h.0; counts = λ c. fed_counts feed h.1 c }, same_follow feeds)
   fed_follow (suc place) (feed ∷ feeds) h = (record { name = refl; refused = λ r. r; counts = λ c. c }, fed_follow place feeds h)
 
-  fed_open : (place : ℕ) (feeds : List Feed) → IsSomeAnd (slice_get feeds place) (λ feed. (is_open feed.status ≡ true) × (feed.taken + rows < 2 ^ 48)) → list_any (λ (f : Feed). is_open f.status) (with_feed place fed feeds) ≡ true
+  fed_open : (place : ℕ) (feeds : List Feed) → IsSomeAnd (slice_get feeds place) (λ feed. (is_open feed.status ≡ true) × (feed.taken + rows < record_limit)) → list_any (λ (f : Feed). is_open f.status) (with_feed place fed feeds) ≡ true
   fed_open place [] h = absurd h
   fed_open zero (feed ∷ feeds) h = refl
   fed_open (suc place) (feed ∷ feeds) h = or_right (is_open feed.status) (list_any (λ (f : Feed). is_open f.status) (with_feed place fed feeds)) (fed_open place feeds h)
 
-  was_open : (place : ℕ) (feeds : List Feed) → IsSomeAnd (slice_get feeds place) (λ feed. (is_open feed.status ≡ true) × (feed.taken + rows < 2 ^ 48)) → list_any (λ (f : Feed). is_open f.status) feeds ≡ true
+  was_open : (place : ℕ) (feeds : List Feed) → IsSomeAnd (slice_get feeds place) (λ feed. (is_open feed.status ≡ true) × (feed.taken + rows < record_limit)) → list_any (λ (f : Feed). is_open f.status) feeds ≡ true
   was_open place [] h = absurd h
   was_open zero (feed ∷ feeds) h = ap (λ b. b || list_any (λ (f : Feed). is_open f.status) feeds) h.0
   was_open (suc place) (feed ∷ feeds) h = or_right (is_open feed.status) (list_any (λ (f : Feed). is_open f.status) feeds) (was_open place feeds h)
 
-  pub may_take : (all : List Log) (place : ℕ) (feeds : List Feed) → IsSomeAnd (slice_get feeds place) (λ feed. (is_open feed.status ≡ true) × (feed.taken + rows < 2 ^ 48)) → All HasCounts feeds → all ≡ logs_at feeds place ++ logs → IsSomeAnd (slice_get feeds place) (λ feed. MayTake rows duplicates logs all feed)
-  may_take all place [] h counts is = absurd h
-  may_take all zero (feed ∷ feeds) h counts is = (All-head HasCounts feed feeds counts, h.1, few, is)
-  may_take all (suc place) (feed ∷ feeds) h counts is = may_take all place feeds h (All-tail HasCounts feed feeds counts) is
+  pub may_take : (place : ℕ) (feeds : List Feed) → IsSomeAnd (slice_get feeds place) (λ feed. (is_open feed.status ≡ true) × (feed.taken + rows < record_limit)) → All IsFeed feeds → IsSomeAnd (slice_get feeds place) (λ feed. MayTake rows duplicates logs feed)
+  may_take place [] h all = absurd h
+  may_take zero (feed ∷ feeds) h all = (All-head IsFeed feed feeds all, h.1, few)
+  may_take (suc place) (feed ∷ feeds) h all = may_take place feeds h (All-tail IsFeed feed feeds all)
 
   pub fed_change : (moment place : ℕ) (kept : Kept) → AreJobs kept → (old : Job) → front_job kept.jobs ≡ Some old → MayFeed place rows old → IsChange kept.jobs old (fed_job moment place rows digest duplicates logs old)
   fed_change moment place kept are old front may =
@@ -128,6 +131,6 @@ module _ (rows : ℕ) (digest : Digest) (duplicates : ℕ) (logs : List Log) (fe
         begun = running_begun old.status running;
         running = last_open between ∙ fed_open place old.feeds may ∙ sym running;
         feeds = follow_feeds between (last_logs between) (last_follow between) (follow_feeds old.feeds between (fed_follow place old.feeds may) (All-contains (λ job. AreFeeds job.feeds) kept.jobs old are.feeds there));
-        counts = follow_counts between (last_logs between) (last_follow between) (follow_counts old.feeds between (fed_follow place old.feeds may) (All-contains (λ job. All HasCounts job.feeds) kept.jobs old are.counts there));
+        each = follow_counts between (last_logs between) (last_follow between) (follow_counts old.feeds between (fed_follow place old.feeds may) (All-contains (λ job. All IsFeed job.feeds) kept.jobs old are.each there));
         first = λ unended. front_first kept.jobs old are.rising front;
       }

@@ -7,7 +7,7 @@ use Rattle.std.proofs.lemmas.Bool.{cases_lt}
 use Rattle.std.proofs.lemmas.List.{drop-append-le, drop-drop, drop_at}
 use Rattle.bl_files.specs.declared.feed.Feed.{Feed}
 use Rattle.bl_files.specs.declared.log.Log.{Log}
-use Rattle.bl_files.specs.ErrorFeed.{kept_row_logs, row_logs}
+use Rattle.bl_files.specs.ErrorFeed.{kept_row_logs, most_logs, row_logs}
 use Rattle.bl_queue.specs.Rows.{last_logs}
 
 abbrev pub kept_logs : ℕ → Feed → Feed
@@ -17,16 +17,16 @@ kept_logs room feed = record feed { logs = drop (length feed.logs - room) feed.l
 pub record IsBehind (initial feeds : List Feed) (place room : ℕ) : Type 0 where
   pub within : place ≤ length initial
   pub done : feeds ≡ take place initial ++ last_logs (drop place initial)
-  pub left : room ≡ 10000 - length (row_logs (drop place initial))
+  pub left : room ≡ most_logs - length (row_logs (drop place initial))
 
-pub behind_none : (initial : List Feed) (place : ℕ) → place ≡ length initial → IsBehind initial initial place 10000
+pub behind_none : (initial : List Feed) (place : ℕ) → place ≡ length initial → IsBehind initial initial place most_logs
 behind_none initial place at =
     let past : length initial ≤ place = omega arith in
     let none : drop place initial ≡ [] = drop_all place initial past in
     record {
       within = omega arith;
       done = sym (ap (λ l. take place initial ++ last_logs l) none ∙ append-nil (take place initial) ∙ take_all place initial past);
-      left = sym (ap (λ l. 10000 - length (row_logs l)) none);
+      left = sym (ap (λ l. most_logs - length (row_logs l)) none);
     }
 
 pub behind_at : (initial feeds : List Feed) (place room : ℕ) (d : Feed) → IsBehind initial feeds (place + 1) room → get_or feeds place d ≡ get_or initial place d
@@ -45,28 +45,28 @@ behind_more initial feeds place room more d new is made less =
       within = omega arith;
       done = ap (λ l. set l place new) split ∙ set_at (take place initial) feed (last_logs (drop (place + 1) initial)) new place (omega (arith, length-take place initial))
           ∙ ap (λ x. take place initial ++ x ∷ last_logs (drop (place + 1) initial)) (made ∙ ap (λ r. kept_logs r feed) is.left) ∙ sym (ap (λ l. take place initial ++ last_logs l) rest);
-      left = less ∙ ap (λ r. r - length feed.logs) is.left ∙ sums (length feed.logs) (length (row_logs (drop (place + 1) initial))) ∙ sym (ap (λ l. 10000 - length (row_logs l)) rest ∙ ap (λ n. 10000 - n) (length-append feed.logs (row_logs (drop (place + 1) initial))));
+      left = less ∙ ap (λ r. r - length feed.logs) is.left ∙ sums (length feed.logs) (length (row_logs (drop (place + 1) initial))) ∙ sym (ap (λ l. most_logs - length (row_logs l)) rest ∙ ap (λ n. most_logs - n) (length-append feed.logs (row_logs (drop (place + 1) initial))));
     } where
-      sums : (a b : ℕ) → 10000 - b - a ≡ 10000 - (a + b)
+      sums : (a b : ℕ) → most_logs - b - a ≡ most_logs - (a + b)
       sums a b = omega arith
 
 -- ---- the logs that stay are the last of all
 
-kept_by : (xs ys : List Log) → drop (length xs - (10000 - length ys)) xs ++ drop (length ys - 10000) ys ≡ drop (length (xs ++ ys) - 10000) (xs ++ ys)
+kept_by : (xs ys : List Log) → drop (length xs - (most_logs - length ys)) xs ++ drop (length ys - most_logs) ys ≡ drop (length (xs ++ ys) - most_logs) (xs ++ ys)
 kept_by xs ys =
-    elim (cases_lt 10000 (length ys)) [
+    elim (cases_lt most_logs (length ys)) [
       | inl many ↦
-          ap (λ l. l ++ drop (length ys - 10000) ys) (drop_all (length xs - (10000 - length ys)) xs (omega arith))
-          ∙ sym (ap (λ n. drop n (xs ++ ys)) (let e : length (xs ++ ys) - 10000 ≡ length xs + (length ys - 10000) = omega (arith, length-append xs ys) in e)
-          ∙ sym (drop-drop (length ys - 10000) (length xs) (xs ++ ys)) ∙ ap (λ l. drop (length ys - 10000) l) (drop_at xs ys (length xs) refl))
+          ap (λ l. l ++ drop (length ys - most_logs) ys) (drop_all (length xs - (most_logs - length ys)) xs (omega arith))
+          ∙ sym (ap (λ n. drop n (xs ++ ys)) (let e : length (xs ++ ys) - most_logs ≡ length xs + (length ys - most_logs) = omega (arith, length-append xs ys) in e)
+          ∙ sym (drop-drop (length ys - most_logs) (length xs) (xs ++ ys)) ∙ ap (λ l. drop (length ys - most_logs) l) (drop_at xs ys (length xs) refl))
       | inr few ↦
-          ap (λ n. drop (length xs - (10000 - length ys)) xs ++ drop n ys) (let e : length ys - 10000 ≡ 0 = omega arith in e)
-          ∙ ap (λ n. drop n xs ++ ys) (let e : length xs - (10000 - length ys) ≡ length (xs ++ ys) - 10000 = omega (arith, length-append xs ys) in e)
-          ∙ sym (drop-append-le (length (xs ++ ys) - 10000) xs ys (omega (arith, length-append xs ys)))
+          ap (λ n. drop (length xs - (most_logs - length ys)) xs ++ drop n ys) (let e : length ys - most_logs ≡ 0 = omega arith in e)
+          ∙ ap (λ n. drop n xs ++ ys) (let e : length xs - (most_logs - length ys) ≡ length (xs ++ ys) - most_logs = omega (arith, length-append xs ys) in e)
+          ∙ sym (drop-append-le (length (xs ++ ys) - most_logs) xs ys (omega (arith, length-append xs ys)))
     ]
 
 pub last_are_kept : (feeds : List Feed) → row_logs (last_logs feeds) ≡ kept_row_logs feeds
 last_are_kept [] = refl
 last_are_kept (feed ∷ feeds) =
-    ap (λ l. drop (length feed.logs - (10000 - length (row_logs feeds))) feed.logs ++ l) (last_are_kept feeds)
+    ap (λ l. drop (length feed.logs - (most_logs - length (row_logs feeds))) feed.logs ++ l) (last_are_kept feeds)
     ∙ kept_by feed.logs (row_logs feeds)

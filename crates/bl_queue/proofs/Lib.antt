@@ -10,7 +10,7 @@ mod Placed
 mod EndedFeeds
 pub mod RunChanges
 pub mod Starts
-mod TestFiles
 mod LastLogs
 pub mod FedFeeds
-mod SettledLaws
+pub mod SettledLaws
+pub mod SteadyChanges

@@ -7,12 +7,13 @@ use Rattle.std.proofs.lemmas.List.Elements.{All-contains}
 use Rattle.bl_files.specs.declared.feed.Feed.{Feed}
 use Rattle.bl_files.specs.declared.feed_end.FeedEnd.{FeedEnd}
 use Rattle.bl_files.specs.declared.feed_status.FeedStatus.TheVariants as feed
-use Rattle.bl_files.specs.Carried.{AreFeeds, is_completed}
+use Rattle.bl_files.specs.Carried.{AreFeeds}
+use Rattle.bl_files.specs.Statuses.{is_completed}
 use Rattle.bl_queue.specs.declared.job.Job.{Job}
 use Rattle.bl_queue.specs.declared.job_status.JobStatus.{JobStatus}
 use Rattle.bl_queue.specs.declared.job_status.JobStatus.TheVariants.{NotStarted, InQueue, InProgress, Completed, CancelledByUser, Failed, DependencyNotSatisfied}
 use Rattle.bl_queue.specs.Statuses.{has_ended, is_in_progress, is_to_start}
-use Rattle.bl_queue.specs.Jobs.{AreJobs, HasCounts, IsNumbered, Kept, front_job, has_open}
+use Rattle.bl_queue.specs.Jobs.{AreJobs, IsFeed, IsNumbered, Kept, front_job, has_open}
 use Rattle.bl_queue.specs.Runs.{IsOpenAt, cancelled_job, closed, feeds_after, job_after_feed, whole_status, with_open_ended}
 use Rattle.bl_queue.proofs.ChangedJobs.{IsChange, front_first, front_in}
 use Rattle.bl_queue.proofs.EndedFeeds.{feeds_after_counts, feeds_after_feeds, none_open, open_goes, some_open, still_counts, still_feeds}
@@ -26,7 +27,7 @@ cancel_change moment kept are old there = record {
   begun = refl;
   running = none_open feed.CancelledByUser old.feeds refl;
   feeds = still_feeds old.feeds (with_open_ended feed.CancelledByUser old.feeds) (open_goes feed.CancelledByUser old.feeds) (All-contains (λ job. AreFeeds job.feeds) kept.jobs old are.feeds there);
-  counts = still_counts old.feeds (with_open_ended feed.CancelledByUser old.feeds) (open_goes feed.CancelledByUser old.feeds) (All-contains (λ job. All HasCounts job.feeds) kept.jobs old are.counts there);
+  each = still_counts old.feeds (with_open_ended feed.CancelledByUser old.feeds) (open_goes feed.CancelledByUser old.feeds) (All-contains (λ job. All IsFeed job.feeds) kept.jobs old are.each there);
   first = λ unended. absurd (true≢false (sym unended));
 }
 
@@ -43,7 +44,7 @@ pub whole_by : (P : JobStatus → Type 0) (feeds : List Feed) → P Completed �
 whole_by P feeds one two = cond_both (list_all (λ (f : Feed). is_completed f.status) feeds) Completed Failed P (λ h. one) (λ h. two)
 
 -- a job in progress with other files, closed where each has ended
-pub close_change : (moment : ℕ) (kept : Kept) → AreJobs kept → (old job : Job) → front_job kept.jobs ≡ Some old → job.number ≡ old.number → job.id ≡ old.id → job.request ≡ old.request → job.run ≤ old.number → is_in_progress job.status ≡ true → AreFeeds job.feeds → All HasCounts job.feeds → IsChange kept.jobs old (closed job)
+pub close_change : (moment : ℕ) (kept : Kept) → AreJobs kept → (old job : Job) → front_job kept.jobs ≡ Some old → job.number ≡ old.number → job.id ≡ old.id → job.request ≡ old.request → job.run ≤ old.number → is_in_progress job.status ≡ true → AreFeeds job.feeds → All IsFeed job.feeds → IsChange kept.jobs old (closed job)
 close_change moment kept are old job front number id request run running feeds counts =
     cond_both (has_open job) job (record job { status = whole_status job.feeds }) (λ x. IsChange kept.jobs old x)
     (λ still. record {
@@ -54,7 +55,7 @@ close_change moment kept are old job front number id request run running feeds c
       begun = running_begun job.status running;
       running = still ∙ sym running;
       feeds = feeds;
-      counts = counts;
+      each = counts;
       first = λ unended. front_first kept.jobs old are.rising front;
     })
     (λ none. record {
@@ -65,7 +66,7 @@ close_change moment kept are old job front number id request run running feeds c
       begun = whole_by (λ s. is_to_start s ≡ false) job.feeds refl refl;
       running = none ∙ sym (whole_by (λ s. is_in_progress s ≡ false) job.feeds refl refl);
       feeds = feeds;
-      counts = counts;
+      each = counts;
       first = λ unended. absurd (true≢false (sym unended ∙ whole_by (λ s. not (has_ended s) ≡ false) job.feeds refl refl));
     })
 
@@ -76,4 +77,4 @@ feed_change moment place how kept are old front still =
     close_change moment kept are old (record old { latest = moment; feeds = feeds_after old.request.fail_on_error place how old.feeds }) front refl refl refl
     (All-contains (λ job. IsNumbered kept.last job) kept.jobs old are.numbered there).run running
     (feeds_after_feeds old.request.fail_on_error how place old.feeds still (All-contains (λ job. AreFeeds job.feeds) kept.jobs old are.feeds there))
-    (feeds_after_counts old.request.fail_on_error how place old.feeds still (All-contains (λ job. All HasCounts job.feeds) kept.jobs old are.counts there))
+    (feeds_after_counts old.request.fail_on_error how place old.feeds still (All-contains (λ job. All IsFeed job.feeds) kept.jobs old are.each there))

@@ -3,6 +3,7 @@ use Rattle.std.specs.Prelude.{◌≡◌, ◌≤◌, ℕ, true, false, List, leng
 use Rattle.std.proofs.Common.{sym, ap, subst, ◌∙◌}
 use Rattle.bl_queue.specs.declared.job.Job.{Job}
 use Rattle.bl_queue.specs.Statuses.{is_in_progress}
+use Rattle.bl_queue.specs.Limits.{most_kept}
 use Rattle.bl_queue.specs.Jobs.{AreJobs, IsUnfailed, front_job, is_unended, waits}
 use Rattle.bl_queue.specs.Doomed.{IsFate, IsSettled}
 use Rattle.bl_queue.proofs.DoomedJobs.{zip_same}
@@ -28,7 +29,7 @@ are_settled moment last before after steady calm settled =
 pub settled_length : (moment : ℕ) (before after : List Job) → IsSettled moment before after → length after ≡ length before
 settled_length moment before after settled = ap length settled.2 ∙ front_length settled.0 ∙ sym (zip_same (IsFate moment before) before settled.0 settled.1)
 
-pub are_jobs : (last : ℕ) (jobs : List Job) → AreSettled last jobs → length jobs ≤ 1024 → AreJobs (record { last = last; jobs = jobs })
+pub are_jobs : (last : ℕ) (jobs : List Job) → AreSettled last jobs → length jobs ≤ most_kept → AreJobs (record { last = last; jobs = jobs })
 are_jobs last jobs are few = record {
   rising = are.steady.rising;
   numbered = are.steady.numbered;
@@ -41,5 +42,5 @@ are_jobs last jobs are few = record {
   running = are.steady.running;
   fresh = are.steady.fresh;
   feeds = are.steady.feeds;
-  counts = are.steady.counts;
+  each = are.steady.each;
 }

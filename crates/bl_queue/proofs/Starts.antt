@@ -12,11 +12,14 @@ use Rattle.bl_files.specs.declared.found.Found.{Found}
 use Rattle.bl_files.specs.declared.mode.Mode.{Mode}
 use Rattle.bl_files.specs.declared.mode.Mode.TheVariants.{New, Resume, Auto}
 use Rattle.bl_files.specs.Carried.{AreCarried, AreFeeds, IsCarriedFeed}
+use Rattle.bl_files.specs.Codes.{has_file_code}
+use Rattle.bl_files.specs.Plans.{HaveFileCodes}
 use Rattle.bl_queue.specs.declared.job.Job.{Job}
 use Rattle.bl_queue.specs.declared.job_status.JobStatus.TheVariants.{NotStarted, InProgress}
 use Rattle.bl_files.specs.declared.feed_status.FeedStatus.TheVariants.{CancelledDueToErrors}
-use Rattle.bl_queue.specs.Statuses.{is_failed, is_in_progress}
-use Rattle.bl_queue.specs.Jobs.{AreJobs, HasCounts, IsNumbered, Kept, front_job, has_open, job_of}
+use Rattle.bl_files.specs.Statuses.{is_failed}
+use Rattle.bl_queue.specs.Statuses.{is_in_progress}
+use Rattle.bl_queue.specs.Jobs.{AreJobs, IsFeed, IsNumbered, Kept, front_job, has_open, job_of}
 use Rattle.bl_queue.specs.Previous.{may_go_before, previous_job}
 use Rattle.bl_queue.specs.Runs.{begun, by_mode, feeds_of, goes_on_from, refused_job, run_after, running_job, started_job, with_open_ended}
 use Rattle.bl_queue.proofs.ChangedJobs.{IsChange, found_in, front_in}
@@ -51,14 +54,14 @@ some_weaker (Some x) P Q step h = step x h
 pub record IsOlder (number : ℕ) (older : Job) : Type 0 where
   pub run : older.run < number
   pub feeds : AreFeeds older.feeds
-  pub counts : All HasCounts older.feeds
+  pub each : All IsFeed older.feeds
 
 module _ (keeps : Kept) (are : AreJobs keeps) where
   abbrev Known : Job → Type 0
-  Known job = IsNumbered keeps.last job × AreFeeds job.feeds × All HasCounts job.feeds
+  Known job = IsNumbered keeps.last job × AreFeeds job.feeds × All IsFeed job.feeds
 
   known : All Known keeps.jobs
-  known k d below = (are.numbered k d below, are.feeds k d below, are.counts k d below)
+  known k d below = (are.numbered k d below, are.feeds k d below, are.each k d below)
 
   pub older : (number : ℕ) → IfSome (goes_on_from keeps.jobs number) (λ it. IsOlder number it)
   older number = by (job_of number keeps.jobs) refl where
@@ -68,30 +71,30 @@ module _ (keeps : Kept) (are : AreJobs keeps) where
         let same : job.number ≡ number = (found_in number keeps.jobs job is).1 in
         mode_holds job.request.mode (previous_job keeps.jobs job) (λ it. IsOlder number it)
         (some_weaker (previous_job keeps.jobs job) (λ it. Known it × (may_go_before job it ≡ true)) (λ it. IsOlder number it)
-        (λ it h. let less : it.number < job.number = ltb-true it.number job.number (and_parts (nat_lt it.number job.number) _ h.1).0 in record { run = omega (arith, h.0.0.run); feeds = h.0.1; counts = h.0.2 })
+        (λ it h. let less : it.number < job.number = ltb-true it.number job.number (and_parts (nat_lt it.number job.number) _ h.1).0 in record { run = omega (arith, h.0.0.run); feeds = h.0.1; each = h.0.2 })
         (find_holds (may_go_before job) Known (reverse keeps.jobs) (all_reverse Known keeps.jobs known)))
 
 pub run_fits : (number : ℕ) (o : Option Job) → IfSome o (λ it. IsOlder number it) → 1 ≤ number → run_after o ≤ number
 run_fits number None h least = least
 run_fits number (Some it) h least = omega (arith, h.run)
 
-pub feeds_fit : (number : ℕ) (o : Option Job) → IfSome o (λ it. IsOlder number it) → AreFeeds (feeds_of o) × All HasCounts (feeds_of o)
-feeds_fit number None h = (no_feeds, All-nil HasCounts)
-feeds_fit number (Some it) h = (h.feeds, h.counts)
+pub feeds_fit : (number : ℕ) (o : Option Job) → IfSome o (λ it. IsOlder number it) → AreFeeds (feeds_of o) × All IsFeed (feeds_of o)
+feeds_fit number None h = (no_feeds, All-nil IsFeed)
+feeds_fit number (Some it) h = (h.feeds, h.each)
 
 -- ---- the files that go on
 
-carried_counts : (previous : List Feed) (found : List Found) (feed : Feed) → All HasCounts previous → IsCarriedFeed previous found feed → HasCounts feed
-carried_counts previous found feed all (inl of) =
-    let old : HasCounts of.0 = All-contains HasCounts previous of.0 all of.1 in
-    subst HasCounts (sym of.3) (record { taken = old.taken; records = old.records; duplicates = old.duplicates; parsing = old.parsing; datatype = old.datatype; insert = old.insert })
-carried_counts previous found feed all (inr of) =
-    subst HasCounts (sym of.3) (record { taken = lit< tt; records = lit≤ tt; duplicates = lit≤ tt; parsing = lit≤ tt; datatype = lit≤ tt; insert = lit≤ tt })
+carried_counts : (previous : List Feed) (found : List Found) (feed : Feed) → All IsFeed previous → HaveFileCodes found → IsCarriedFeed previous found feed → IsFeed feed
+carried_counts previous found feed all codes (inl of) =
+    let old : IsFeed of.0 = All-contains IsFeed previous of.0 all of.1 in
+    subst IsFeed (sym of.3) (record { kind = old.kind; taken = old.taken; records = old.records; duplicates = old.duplicates; parsing = old.parsing; datatype = old.datatype; insert = old.insert })
+carried_counts previous found feed all codes (inr of) =
+    subst IsFeed (sym of.3) (record { kind = All-contains (λ (file : Found). has_file_code file.kind ≡ true) found of.0 codes of.1; taken = lit< tt; records = lit≤ tt; duplicates = lit≤ tt; parsing = lit≤ tt; datatype = lit≤ tt; insert = lit≤ tt })
 
-pub all_counts : (previous : List Feed) (found : List Found) (feeds : List Feed) → All HasCounts previous → AreCarried previous found feeds → All HasCounts feeds
-all_counts previous found feeds all are k d below =
+pub all_counts : (previous : List Feed) (found : List Found) (feeds : List Feed) → All IsFeed previous → HaveFileCodes found → AreCarried previous found feeds → All IsFeed feeds
+all_counts previous found feeds all codes are k d below =
     let feed : Feed = get_or feeds k d in
-    carried_counts previous found feed all ((are.each feed).0 (k, below, get_or_default feeds k feed d below))
+    carried_counts previous found feed all codes ((are.each feed).0 (k, below, get_or_default feeds k feed d below))
 
 -- ---- a file that has failed at once
 
@@ -103,9 +106,9 @@ begun_feeds fail_on_error feeds are =
     cond_both (stops_at_once fail_on_error feeds) (with_open_ended CancelledDueToErrors feeds) feeds AreFeeds
     (λ stops. still_feeds feeds (with_open_ended CancelledDueToErrors feeds) (open_goes CancelledDueToErrors feeds) are) (λ goes. are)
 
-begun_counts : (fail_on_error : Bool) (feeds : List Feed) → All HasCounts feeds → All HasCounts (begun fail_on_error feeds)
+begun_counts : (fail_on_error : Bool) (feeds : List Feed) → All IsFeed feeds → All IsFeed (begun fail_on_error feeds)
 begun_counts fail_on_error feeds all =
-    cond_both (stops_at_once fail_on_error feeds) (with_open_ended CancelledDueToErrors feeds) feeds (λ l. All HasCounts l)
+    cond_both (stops_at_once fail_on_error feeds) (with_open_ended CancelledDueToErrors feeds) feeds (λ l. All IsFeed l)
     (λ stops. still_counts feeds (with_open_ended CancelledDueToErrors feeds) (open_goes CancelledDueToErrors feeds) all) (λ goes. all)
 
 -- ---- the changes
@@ -119,7 +122,7 @@ module _ (moment : ℕ) (keeps : Kept) (are : AreJobs keeps) (old : Job) (front 
       let numbered : IsNumbered keeps.last old = All-contains (λ job. IsNumbered keeps.last job) keeps.jobs old are.numbered there in
       omega (arith, same, run_fits number (goes_on_from keeps.jobs number) (older keeps are number) (omega (arith, numbered.least, same)))
 
-  pub run_change : (run previous : ℕ) (feeds : List Feed) → run ≤ old.number → AreFeeds feeds → All HasCounts feeds → IsChange keeps.jobs old (running_job moment run previous feeds old)
+  pub run_change : (run previous : ℕ) (feeds : List Feed) → run ≤ old.number → AreFeeds feeds → All IsFeed feeds → IsChange keeps.jobs old (running_job moment run previous feeds old)
   run_change run previous feeds few fit counts =
       close_change moment keeps are old (record (started_job moment run previous old) { status = InProgress; feeds = begun old.request.fail_on_error feeds }) front refl refl refl few refl (begun_feeds old.request.fail_on_error feeds fit) (begun_counts old.request.fail_on_error feeds counts)
 
@@ -132,6 +135,6 @@ module _ (moment : ℕ) (keeps : Kept) (are : AreJobs keeps) (old : Job) (front 
     begun = refl;
     running = All-contains (λ job. has_open job ≡ is_in_progress job.status) keeps.jobs old are.running there ∙ ap is_in_progress rests;
     feeds = All-contains (λ job. AreFeeds job.feeds) keeps.jobs old are.feeds there;
-    counts = All-contains (λ job. All HasCounts job.feeds) keeps.jobs old are.counts there;
+    each = All-contains (λ job. All IsFeed job.feeds) keeps.jobs old are.each there;
     first = λ unended. absurd (true≢false (sym unended));
   }

@@ -17,7 +17,8 @@ use Rattle.bl_queue.specs.declared.job_status.JobStatus.TheVariants.{InQueue}
 use Rattle.bl_queue.specs.declared.check_refusal.CheckRefusal.{CheckRefusal}
 use Rattle.bl_queue.specs.declared.check_refusal.CheckRefusal.TheVariants.{UnknownDependency, QueueFull}
 use Rattle.bl_queue.specs.Statuses.{has_failed, is_in_progress, is_to_start}
-use Rattle.bl_queue.specs.Jobs.{AreJobs, HasCounts, IsNumbered, IsUnfailed, Kept, has_open, is_unended, number_in, waits}
+use Rattle.bl_queue.specs.Limits.{most_queued}
+use Rattle.bl_queue.specs.Jobs.{AreJobs, IsFeed, IsNumbered, IsUnfailed, Kept, has_open, is_unended, number_in, waits}
 use Rattle.bl_queue.specs.Checks.{busy, full, has_id, refusal, too_many, unknown}
 use Rattle.bl_queue.specs.Changes.{new_job}
 use Rattle.bl_queue.proofs.Fronts.{none_at}
@@ -36,9 +37,9 @@ place_none : (o : Option ℕ) → option_map (λ place. UnknownDependency (place
 place_none None h = refl
 place_none (Some x) h = absurd (cc)
 
-full_by : (n : ℕ) (b : Bool) → (n == 64) ≡ b → cond b (Some QueueFull) None ≡ None → n ≡ 64 → ⊥
+full_by : (n : ℕ) (b : Bool) → (n == most_queued) ≡ b → cond b (Some QueueFull) None ≡ None → n ≡ most_queued → ⊥
 full_by n true is h = λ same. cc
-full_by n false is h = eqb-false n 64 is
+full_by n false is h = eqb-false n most_queued is
 
 module _ (moment id : ℕ) (request : LoadRequest) (kept : Kept) (are : AreJobs kept) (taken_on : refusal kept request ≡ None) (id_is : number_in id ≡ kept.last + 1) where
   abbrev new : Job
@@ -59,13 +60,13 @@ module _ (moment id : ℕ) (request : LoadRequest) (kept : Kept) (are : AreJobs 
       let number : number_in (get_or request.dependencies k d) ≡ there.1.number = ap number_in (sym same) ∙ numbered.id in
       omega (arith, numbered.most)
 
-  room : count_by waits kept.jobs < 64
+  room : count_by waits kept.jobs < most_queued
   room =
       let many = or_none (too_many request) _ taken_on in
       let first = or_none (unknown kept.jobs request) _ many.1 in
       let may_wait = or_none (busy kept.jobs request) _ first.1 in
       let fits = or_none (full kept.jobs) _ may_wait.1 in
-      let not_full : count_by waits kept.jobs ≡ 64 → ⊥ = full_by (count_by waits kept.jobs) (count_by waits kept.jobs == 64) refl fits.0 in
+      let not_full : count_by waits kept.jobs ≡ most_queued → ⊥ = full_by (count_by waits kept.jobs) (count_by waits kept.jobs == most_queued) refl fits.0 in
       omega (arith, are.queued)
 
   rises : AllPairs (λ a b. a.number < b.number) before
@@ -83,7 +84,7 @@ module _ (moment id : ℕ) (request : LoadRequest) (kept : Kept) (are : AreJobs 
     running = All-push (λ job. has_open job ≡ is_in_progress job.status) kept.jobs new are.running refl;
     fresh = All-push (λ job. is_to_start job.status ≡ true → job.feeds ≡ []) kept.jobs new are.fresh (λ h. refl);
     feeds = All-push (λ job. AreFeeds job.feeds) kept.jobs new are.feeds no_feeds;
-    counts = All-push (λ job. All HasCounts job.feeds) kept.jobs new are.counts (All-nil HasCounts);
+    each = All-push (λ job. All IsFeed job.feeds) kept.jobs new are.each (All-nil IsFeed);
   }
 
   pub pushed_calm : All (λ job. is_in_progress job.status ≡ true → IsUnfailed before job) before

@@ -11,7 +11,8 @@ use Rattle.bl_files.specs.Carried.{AreFeeds}
 use Rattle.bl_queue.specs.declared.job.Job.{Job}
 use Rattle.bl_queue.specs.declared.job_status.JobStatus.TheVariants.{InQueue}
 use Rattle.bl_queue.specs.Statuses.{has_ended, has_failed, is_in_progress, is_in_queue, is_to_start}
-use Rattle.bl_queue.specs.Jobs.{AreJobs, HasCounts, IsNumbered, IsUnfailed, front_job, has_open, is_unended, number_in, waits}
+use Rattle.bl_queue.specs.Limits.{most_kept}
+use Rattle.bl_queue.specs.Jobs.{AreJobs, IsFeed, IsNumbered, IsUnfailed, front_job, has_open, is_unended, number_in, waits}
 use Rattle.bl_queue.specs.Changes.{trimmed}
 use Rattle.bl_queue.proofs.FatedJobs.{AreSteady, count_cons}
 use Rattle.bl_queue.proofs.CalledJobs.{pairs_head}
@@ -35,7 +36,7 @@ most_wait (job ∷ jobs) behind all =
 abbrev pub first_ended : List Job → ℕ
 first_ended jobs = position_or_len (λ job. has_ended job.status) jobs
 
-one_ended : (last : ℕ) (jobs : List Job) → AreSteady last jobs → 1024 < length jobs → first_ended jobs < length jobs
+one_ended : (last : ℕ) (jobs : List Job) → AreSteady last jobs → most_kept < length jobs → first_ended jobs < length jobs
 one_ended last jobs steady many =
     elim (cases_lt (first_ended jobs) (length jobs)) [
       | inl within ↦ within
@@ -64,7 +65,7 @@ module _ (last : ℕ) (jobs : List Job) (i : ℕ) (d : Job) (within : i < length
       running = all_remove (λ job. has_open job ≡ is_in_progress job.status) jobs i is.steady.running;
       fresh = all_remove (λ job. is_to_start job.status ≡ true → job.feeds ≡ []) jobs i is.steady.fresh;
       feeds = all_remove (λ job. AreFeeds job.feeds) jobs i is.steady.feeds;
-      counts = all_remove (λ job. All HasCounts job.feeds) jobs i is.steady.counts;
+      each = all_remove (λ job. All IsFeed job.feeds) jobs i is.steady.each;
     };
     unfailed = all_remove (λ job. is_unended job ≡ true → IsUnfailed (remove jobs i) job) jobs i
         (All-weaker (λ job. is_unended job ≡ true → IsUnfailed jobs job) (λ job. is_unended job ≡ true → IsUnfailed (remove jobs i) job)
@@ -76,7 +77,7 @@ not_unended : (b : Bool) → b ≡ true → not b ≡ false
 not_unended true h = refl
 not_unended false h = absurd (true≢false (sym h))
 
-trimmed_by : (last : ℕ) (jobs : List Job) → AreSettled last jobs → length jobs ≤ 1025 → 1024 < length jobs → AreJobs (record { last = last; jobs = remove jobs (first_ended jobs) })
+trimmed_by : (last : ℕ) (jobs : List Job) → AreSettled last jobs → length jobs ≤ most_kept + 1 → most_kept < length jobs → AreJobs (record { last = last; jobs = remove jobs (first_ended jobs) })
 trimmed_by last [] is few many = absurd (omega arith)
 trimmed_by last (d ∷ rest) is few many =
     let jobs : List Job = d ∷ rest in
@@ -84,8 +85,8 @@ trimmed_by last (d ∷ rest) is few many =
     let ended : is_unended (get_or jobs (first_ended jobs) d) ≡ false = not_unended _ (passes_at_first (λ (job : Job). has_ended job.status) jobs d within) in
     are_jobs last (remove jobs (first_ended jobs)) (removed last jobs (first_ended jobs) d within is ended) (omega (arith, length-remove jobs (first_ended jobs) within))
 
-pub trimmed_are : (last : ℕ) (jobs : List Job) → AreSettled last jobs → length jobs ≤ 1025 → AreJobs (record { last = last; jobs = trimmed jobs })
+pub trimmed_are : (last : ℕ) (jobs : List Job) → AreSettled last jobs → length jobs ≤ most_kept + 1 → AreJobs (record { last = last; jobs = trimmed jobs })
 trimmed_are last jobs is few =
-    cond_both (nat_lt 1024 (length jobs)) (remove jobs (first_ended jobs)) jobs (λ l. AreJobs (record { last = last; jobs = l }))
-    (λ h. trimmed_by last jobs is few (ltb-true 1024 (length jobs) h))
-    (λ h. are_jobs last jobs is (ltb-false 1024 (length jobs) h))
+    cond_both (nat_lt most_kept (length jobs)) (remove jobs (first_ended jobs)) jobs (λ l. AreJobs (record { last = last; jobs = l }))
+    (λ h. trimmed_by last jobs is few (ltb-true most_kept (length jobs) h))
+    (λ h. are_jobs last jobs is (ltb-false most_kept (length jobs) h))

@@ -8,6 +8,7 @@ use Rattle.bl_queue.specs.declared.job.Job.{Job}
 use Rattle.bl_queue.specs.declared.job_status.JobStatus.{JobStatus}
 use Rattle.bl_queue.specs.declared.job_status.JobStatus.TheVariants.{InQueue}
 use Rattle.bl_queue.specs.Statuses.{has_ended}
+use Rattle.bl_queue.specs.Limits.{most_kept}
 use Rattle.bl_queue.specs.Jobs.{Kept}
 use Rattle.bl_queue.specs.Doomed.{IsSettled}
 
@@ -33,9 +34,9 @@ new_job moment number id request =
       end_log = None;
     }
 
--- of more than 1,024 jobs the oldest that has ended goes
+-- of more jobs than are kept the oldest that has ended goes
 abbrev pub trimmed : List Job → List Job
-trimmed jobs = if nat_lt 1024 (length jobs) then remove jobs (position_or_len (λ job. has_ended job.status) jobs) else jobs
+trimmed jobs = if nat_lt most_kept (length jobs) then remove jobs (position_or_len (λ job. has_ended job.status) jobs) else jobs
 
 -- the list is settled, and then trimmed
 abbrev pub IsTrimmed : ℕ → List Job → List Job → Type 0

@@ -7,11 +7,12 @@ use Rattle.bl_files.specs.declared.load_request.LoadRequest.{LoadRequest}
 use Rattle.bl_queue.specs.declared.job.Job.{Job}
 use Rattle.bl_queue.specs.declared.check_refusal.CheckRefusal.{CheckRefusal}
 use Rattle.bl_queue.specs.declared.check_refusal.CheckRefusal.TheVariants.{TooManyDependencies, UnknownDependency, Busy, QueueFull, NumbersUsedUp}
+use Rattle.bl_queue.specs.Limits.{most_dependencies, most_queued}
 use Rattle.bl_queue.specs.Jobs.{Kept, front_job, waits}
 
--- there are more than 64 dependencies
+-- there are too many dependencies
 abbrev pub too_many : LoadRequest → Option CheckRefusal
-too_many request = if nat_lt 64 (length request.dependencies) then Some TooManyDependencies else None
+too_many request = if nat_lt most_dependencies (length request.dependencies) then Some TooManyDependencies else None
 
 -- a kept job has this id
 abbrev pub has_id : List Job → ℕ → Bool
@@ -25,9 +26,9 @@ unknown jobs request = option_map (λ place. UnknownDependency (place + 1)) (pos
 abbrev pub busy : List Job → LoadRequest → Option CheckRefusal
 busy jobs request = if request.queue then None else option_map (λ job. Busy job.id) (front_job jobs)
 
--- 64 jobs wait
+-- as many jobs wait as may
 abbrev pub full : List Job → Option CheckRefusal
-full jobs = if count_by waits jobs == 64 then Some QueueFull else None
+full jobs = if count_by waits jobs == most_queued then Some QueueFull else None
 
 -- the last number of 32 bits was given
 abbrev pub used_up : ℕ → Option CheckRefusal

@@ -1,7 +1,6 @@
 -- What becomes of a job when rows of a file are taken.
-use Rattle.std.specs.Prelude.{◌≡◌, ℕ, ◌+◌, ◌-◌, ◌<◌, ◌≤◌, ◌^◌, Bool, true, false, List, [], ◌∷◌, ◌++◌, length, drop, count_by, slice_get, IsSomeAnd, Some, None}
+use Rattle.std.specs.Prelude.{◌≡◌, ℕ, ◌+◌, ◌-◌, ◌<◌, ◌≤◌, Bool, true, false, List, [], ◌∷◌, ◌++◌, length, drop, count_by, slice_get, IsSomeAnd, Some, None}
 use Rattle.std.specs.declared.option.Option.{Option}
-use Rattle.std.specs.Option.{option_map_or}
 use Rattle.bl_outside.specs.declared.digest.Digest.{Digest}
 use Rattle.bl_files.specs.declared.counts.Counts.{Counts}
 use Rattle.bl_files.specs.declared.error_class.ErrorClass.{ErrorClass}
@@ -10,10 +9,11 @@ use Rattle.bl_files.specs.declared.feed.Feed.{Feed}
 use Rattle.bl_files.specs.declared.feed_status.FeedStatus.TheVariants.{InProgress}
 use Rattle.bl_files.specs.declared.log.Log.{Log}
 use Rattle.bl_files.specs.Codes.{class_of}
-use Rattle.bl_files.specs.ErrorFeed.{row_logs}
+use Rattle.bl_files.specs.ErrorFeed.{most_logs, row_logs}
 use Rattle.bl_queue.specs.declared.job.Job.{Job}
-use Rattle.bl_queue.specs.Statuses.{is_open}
-use Rattle.bl_queue.specs.Jobs.{HasCounts}
+use Rattle.bl_files.specs.Statuses.{is_open}
+use Rattle.bl_queue.specs.Limits.{record_limit}
+use Rattle.bl_queue.specs.Jobs.{IsFeed, front_job}
 use Rattle.bl_queue.specs.Runs.{with_feed}
 
 -- ---- the counters of a log
@@ -53,10 +53,10 @@ abbrev pub fed_feed : ℕ → Digest → ℕ → List Log → Feed → Feed
 fed_feed rows digest duplicates logs feed =
     record feed { status = InProgress; taken = feed.taken + rows; digest = digest; counts = counts_after rows duplicates logs feed.counts; logs = feed.logs ++ logs }
 
--- of the logs of all files together the last 10,000 stay
+-- of the logs of all files together the last stay
 abbrev pub last_logs : List Feed → List Feed
 last_logs [] = []
-last_logs (feed ∷ feeds) = record feed { logs = drop (length feed.logs - (10000 - length (row_logs feeds))) feed.logs } ∷ last_logs feeds
+last_logs (feed ∷ feeds) = record feed { logs = drop (length feed.logs - (most_logs - length (row_logs feeds))) feed.logs } ∷ last_logs feeds
 
 abbrev pub fed_job : ℕ → ℕ → ℕ → Digest → ℕ → List Log → Job → Job
 fed_job moment place rows digest duplicates logs job =
@@ -64,16 +64,14 @@ fed_job moment place rows digest duplicates logs job =
 
 -- the job has an unended file at this place, of which so many records can be taken
 abbrev pub MayFeed : ℕ → ℕ → Job → Type 0
-MayFeed place rows job = IsSomeAnd (slice_get job.feeds place) (λ feed. (is_open feed.status ≡ true) × (feed.taken + rows < 2 ^ 48))
+MayFeed place rows job = IsSomeAnd (slice_get job.feeds place) (λ feed. (is_open feed.status ≡ true) × (feed.taken + rows < record_limit))
 
--- the same of a file, with its logs and the new ones at hand
-abbrev pub MayTake : ℕ → ℕ → List Log → List Log → Feed → Type 0
-MayTake rows duplicates logs all feed = HasCounts feed × (feed.taken + rows < 2 ^ 48) × (duplicates + length logs ≤ rows) × (all ≡ feed.logs ++ logs)
+-- the same of a file, with what is taken
+abbrev pub MayTake : ℕ → ℕ → List Log → Feed → Type 0
+MayTake rows duplicates logs feed = IsFeed feed × (feed.taken + rows < record_limit) × (duplicates + length logs ≤ rows)
 
--- the logs of a file, and of a job's
-abbrev pub logs_at : List Feed → ℕ → List Log
-logs_at feeds place = option_map_or (λ feed. feed.logs) (slice_get feeds place) []
-
-abbrev pub logs_of : Option Job → ℕ → List Log
-logs_of None place = []
-logs_of (Some job) place = logs_at job.feeds place
+-- So many rows of the file of this number, counted from 1, may be taken, with so many duplicates and logs.
+pub record MayTakeRows (jobs : List Job) (job feed rows duplicates logs : ℕ) : Type 0 where
+  pub number : 1 ≤ feed
+  pub front : IsSomeAnd (front_job jobs) (λ it. (it.number ≡ job) × MayFeed (feed - 1) rows it)
+  pub few : duplicates + logs ≤ rows

@@ -1,5 +1,5 @@
 -- What becomes of a job when it is started, goes on, has a file ended, and is cancelled.
-use Rattle.std.specs.Prelude.{◌≡◌, ℕ, suc, zero, ◌+◌, ◌&&◌, Bool, true, false, if◌then◌else◌, List, [], ◌∷◌, length, ◌≤◌, map, slice_get, option_and_then, IsSomeAnd, None, Some}
+use Rattle.std.specs.Prelude.{◌≡◌, ℕ, suc, zero, ◌+◌, ◌-◌, ◌&&◌, Bool, true, false, if◌then◌else◌, List, [], ◌∷◌, length, ◌≤◌, map, slice_get, option_and_then, IsSomeAnd, None, Some}
 use Rattle.std.specs.declared.option.Option.{Option}
 use Rattle.std.specs.List.{list_all, list_any}
 use Rattle.bl_value.specs.declared.log_code.LogCode.{LogCode}
@@ -15,12 +15,12 @@ use Rattle.bl_files.specs.declared.mode.Mode.{Mode}
 use Rattle.bl_files.specs.declared.mode.Mode.TheVariants.{New, Resume, Auto}
 use Rattle.bl_files.specs.declared.plan_result.PlanResult.{PlanResult}
 use Rattle.bl_files.specs.declared.plan_result.PlanResult.TheVariants as plan
-use Rattle.bl_files.specs.Carried.{AreCarried, DifferentNames, found_names, is_completed}
+use Rattle.bl_files.specs.Carried.{AreCarried, most_files}
+use Rattle.bl_files.specs.Statuses.{is_completed, is_failed, is_open}
 use Rattle.bl_queue.specs.declared.job.Job.{Job}
 use Rattle.bl_queue.specs.declared.job_status.JobStatus.{JobStatus}
-use Rattle.bl_queue.specs.declared.job_status.JobStatus.TheVariants.{CancelledByUser, Completed, Failed, InProgress}
-use Rattle.bl_queue.specs.Statuses.{is_failed, is_open}
-use Rattle.bl_queue.specs.Jobs.{Kept, has_open, job_of}
+use Rattle.bl_queue.specs.declared.job_status.JobStatus.TheVariants.{CancelledByUser, Completed, Failed, InProgress, NotStarted}
+use Rattle.bl_queue.specs.Jobs.{Kept, front_job, has_open, is_unended, job_of}
 use Rattle.bl_queue.specs.Previous.{previous_job}
 use Rattle.bl_queue.specs.Changes.{IsChanged}
 
@@ -36,11 +36,24 @@ with_open_ended status feeds = map (open_ended status) feeds
 abbrev pub cancelled_job : ℕ → Job → Job
 cancelled_job moment job = record job { status = CancelledByUser; latest = moment; feeds = with_open_ended feed.CancelledByUser job.feeds }
 
+-- the job is kept, and hasn't ended
+abbrev pub MayCancel : List Job → ℕ → Type 0
+MayCancel jobs number = IsSomeAnd (job_of number jobs) (λ it. is_unended it ≡ true)
+
+-- nor has it a file that hasn't
+abbrev pub MayEnd : List Job → ℕ → Type 0
+MayEnd jobs number = IsSomeAnd (job_of number jobs) (λ it. (is_unended it ≡ true) × (has_open it ≡ false))
+
 -- ---- a file ends
 
 -- the job has a file at this place, and it hasn't ended
 abbrev pub IsOpenAt : ℕ → Job → Type 0
 IsOpenAt place job = IsSomeAnd (slice_get job.feeds place) (λ feed. is_open feed.status ≡ true)
+
+-- the file of this number, counted from 1, may end
+pub record MayEndFeed (jobs : List Job) (job feed : ℕ) : Type 0 where
+  pub number : 1 ≤ feed
+  pub front : IsSomeAnd (front_job jobs) (λ it. (it.number ≡ job) × IsOpenAt (feed - 1) it)
 
 abbrev pub end_status : FeedEnd → FeedStatus
 end_status end.Completed = feed.Completed
@@ -94,6 +107,10 @@ abbrev pub job_after_feed : ℕ → ℕ → FeedEnd → Job → Job
 job_after_feed moment place how job = closed (record job { latest = moment; feeds = feeds_after job.request.fail_on_error place how job.feeds })
 
 -- ---- a job is started
+
+-- the job is the first that hasn't ended, and isn't started
+abbrev pub MayStart : List Job → ℕ → Type 0
+MayStart jobs number = IsSomeAnd (front_job jobs) (λ it. (it.number ≡ number) × (it.status ≡ NotStarted))
 
 -- the load that it goes on with: the previous one, but where it is to begin anew
 abbrev pub by_mode : Mode → Option Job → Option Job
@@ -150,18 +167,13 @@ IsStarted moment number plan.SourceNotFound old new = IsRefused moment number So
 IsStarted moment number plan.ListFault old new = IsRefused moment number ListFault old new
 IsStarted moment number (plan.TooManyFiles n) old new = IsRefused moment number TooManyFiles old new
 
--- a list of files that goes on is not too long
+-- the files that go on from these are not too many
+abbrev pub FitsIn : List Feed → List Found → Type 0
+FitsIn previous found = (feeds : List Feed) × AreCarried previous found feeds × (length feeds ≤ most_files)
+
 abbrev pub HasRoom : List Job → ℕ → PlanResult → Type 0
-HasRoom jobs number (plan.Feeds found) = (feeds : List Feed) × AreCarried (feeds_of (goes_on_from jobs number)) found feeds × (length feeds ≤ 4096)
+HasRoom jobs number (plan.Feeds found) = FitsIn (feeds_of (goes_on_from jobs number)) found
 HasRoom jobs number plan.NoPrevious = Unit {0}
 HasRoom jobs number plan.SourceNotFound = Unit {0}
 HasRoom jobs number plan.ListFault = Unit {0}
 HasRoom jobs number (plan.TooManyFiles n) = Unit {0}
-
--- no name was found twice
-abbrev pub HasNames : PlanResult → Type 0
-HasNames (plan.Feeds found) = DifferentNames (found_names found)
-HasNames plan.NoPrevious = Unit {0}
-HasNames plan.SourceNotFound = Unit {0}
-HasNames plan.ListFault = Unit {0}
-HasNames (plan.TooManyFiles n) = Unit {0}

@@ -1,7 +1,5 @@
--- What the status of a job and of a file says.
+-- What the status of a job says.
 use Rattle.std.specs.Prelude.{Bool, true, false}
-use Rattle.bl_files.specs.declared.feed_status.FeedStatus.{FeedStatus}
-use Rattle.bl_files.specs.declared.feed_status.FeedStatus.TheVariants as feed
 use Rattle.bl_queue.specs.declared.job_status.JobStatus.{JobStatus}
 use Rattle.bl_queue.specs.declared.job_status.JobStatus.TheVariants.{NotStarted, InQueue, InProgress, Completed, CancelledByUser, Failed, DependencyNotSatisfied}
 
@@ -51,24 +49,3 @@ is_in_progress Completed = false
 is_in_progress CancelledByUser = false
 is_in_progress Failed = false
 is_in_progress DependencyNotSatisfied = false
-
-abbrev pub is_failed : FeedStatus → Bool
-is_failed feed.NotStarted = false
-is_failed feed.InProgress = false
-is_failed feed.Completed = false
-is_failed feed.Failed = true
-is_failed feed.ReadError = false
-is_failed feed.Modified = false
-is_failed feed.CancelledDueToErrors = false
-is_failed feed.CancelledByUser = false
-
--- a file of this status hasn't ended
-abbrev pub is_open : FeedStatus → Bool
-is_open feed.NotStarted = true
-is_open feed.InProgress = true
-is_open feed.Completed = false
-is_open feed.Failed = false
-is_open feed.ReadError = false
-is_open feed.Modified = false
-is_open feed.CancelledDueToErrors = false
-is_open feed.CancelledByUser = false

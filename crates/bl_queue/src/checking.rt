@@ -1,5 +1,6 @@
 // Whether a load is taken on.
 ghost use Rattle.std.specs.Prelude.{◌≡◌, ◌≤◌, ◌^◌, ◌<◌, length, position, not};
+ghost use Rattle.bl_queue.specs.Limits.{most_dependencies};
 ghost use Rattle.bl_queue.specs.Checks.{busy, full, has_id, too_many, unknown, used_up};
 
 use crate::searching::front_of;
@@ -12,7 +13,7 @@ pub const MOST_DEPENDENCIES: usize = 64;
 /// The most loads that may wait.
 pub const MOST_QUEUED: usize = 64;
 
-pub(crate) fn too_many(request: &LoadRequest) -> Option<CheckRefusal>
+pub fn too_many(request: &LoadRequest) -> Option<CheckRefusal>
     ensures { result ≡ too_many request.now }
 {
     if request.dependencies.len() > MOST_DEPENDENCIES {
@@ -34,8 +35,8 @@ fn first_unknown(jobs: &[Job], dependencies: &[u128]) -> Option<usize>
     dependencies.iter().position(|id| !has_id(jobs, *id))
 }
 
-pub(crate) fn unknown(jobs: &[Job], request: &LoadRequest) -> Option<CheckRefusal>
-    requires { length request.now.dependencies ≤ 64 }
+pub fn unknown(jobs: &[Job], request: &LoadRequest) -> Option<CheckRefusal>
+    requires { length request.now.dependencies ≤ most_dependencies }
     ensures { result ≡ unknown jobs.now request.now }
 {
     match first_unknown(jobs, request.dependencies.as_slice()) {
@@ -44,7 +45,7 @@ pub(crate) fn unknown(jobs: &[Job], request: &LoadRequest) -> Option<CheckRefusa
     }
 }
 
-pub(crate) fn busy(jobs: &[Job], request: &LoadRequest) -> Option<CheckRefusal>
+pub fn busy(jobs: &[Job], request: &LoadRequest) -> Option<CheckRefusal>
     ensures { result ≡ busy jobs.now request.now }
 {
     if request.queue {
@@ -57,7 +58,7 @@ pub(crate) fn busy(jobs: &[Job], request: &LoadRequest) -> Option<CheckRefusal>
     }
 }
 
-pub(crate) fn full(jobs: &[Job]) -> Option<CheckRefusal>
+pub fn full(jobs: &[Job]) -> Option<CheckRefusal>
     ensures { result ≡ full jobs.now }
 {
     let waiting = jobs.iter().filter(|job| job.status.is_in_queue()).count();
@@ -68,7 +69,7 @@ pub(crate) fn full(jobs: &[Job]) -> Option<CheckRefusal>
     }
 }
 
-pub(crate) fn used_up(last: u32) -> Option<CheckRefusal>
+pub fn used_up(last: u32) -> Option<CheckRefusal>
     ensures { result ≡ used_up last }
 {
     if last == u32::MAX {

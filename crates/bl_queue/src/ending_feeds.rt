@@ -1,26 +1,18 @@
 // The files of a job as they end.
 ghost use Rattle.std.specs.Prelude.{◌≡◌, ◌<◌, length};
-ghost use Rattle.bl_queue.specs.Statuses.{is_open};
-ghost use Rattle.bl_queue.specs.Runs.{bare_log, end_log, end_status, ended_feed, feeds_after, open_ended, stopped, stops, with_feed, with_open_ended};
+ghost use Rattle.bl_queue.specs.Runs.{
+    bare_log, end_log, end_status, ended_feed, feeds_after, open_ended, stopped, stops, with_feed,
+    with_open_ended
+};
 
 use bl_files::{Feed, FeedEnd, FeedStatus, Log};
 use bl_outside::List;
 use bl_value::LogCode;
 
-/// A file of this status hasn't ended.
-pub(crate) fn is_open(status: FeedStatus) -> bool
-    ensures { result ≡ is_open status }
-{
-    match status {
-        FeedStatus::NotStarted | FeedStatus::InProgress => true,
-        _ => false,
-    }
-}
-
 fn end_open(feed: &mut Feed, status: FeedStatus)
     ensures { feed.new ≡ open_ended status feed.old }
 {
-    if is_open(feed.status) {
+    if feed.status.is_open() {
         feed.status = status;
     }
 }
@@ -34,7 +26,7 @@ fn end_all_open(feeds: &mut [Feed], status: FeedStatus)
 }
 
 /// Each file that hasn't ended ends with this status.
-pub(crate) fn with_open_ended(feeds: List<Feed>, status: FeedStatus) -> List<Feed>
+pub fn with_open_ended(feeds: List<Feed>, status: FeedStatus) -> List<Feed>
     ensures { result ≡ with_open_ended status feeds }
 {
     let mut feeds = feeds.into_vec();
@@ -54,7 +46,7 @@ fn end_status(end: FeedEnd) -> FeedStatus
 }
 
 /// A log that is about no record.
-pub(crate) fn bare_log(code: LogCode) -> Log
+pub fn bare_log(code: LogCode) -> Log
     ensures { result ≡ bare_log code }
 {
     Log {
@@ -109,7 +101,7 @@ fn stop(feeds: &mut [Feed], fail_on_error: bool, end: FeedEnd)
 }
 
 /// The file at this place ends, and where that stops the job, all others do.
-pub(crate) fn with_end(
+pub fn with_end(
     feeds: List<Feed>,
     fail_on_error: bool,
     place: usize,

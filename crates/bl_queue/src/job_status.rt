@@ -1,5 +1,5 @@
 // How far a job is.
-ghost use Rattle.std.specs.Prelude.{◌≡◌};
+ghost use Rattle.std.specs.Prelude.{◌≡◌, not};
 ghost use Rattle.bl_queue.specs.Statuses.{has_ended, has_failed, is_in_queue};
 
 /// The status of a job (Neptune User Guide, "Loader Get-Status responses").
@@ -22,30 +22,33 @@ impl JobStatus {
     pub fn has_ended(self) -> bool
         ensures { result ≡ has_ended self }
     {
-        match self {
-            JobStatus::NotStarted | JobStatus::InQueue | JobStatus::InProgress => false,
-            _ => true,
-        }
+        !matches!(
+            self,
+            JobStatus::NotStarted | JobStatus::InQueue | JobStatus::InProgress
+        )
+    }
+
+    /// It hasn't.
+    pub fn is_unended(self) -> bool
+        ensures { result ≡ not (has_ended self) }
+    {
+        !self.has_ended()
     }
 
     /// It has ended otherwise than completed.
     pub fn has_failed(self) -> bool
         ensures { result ≡ has_failed self }
     {
-        match self {
-            JobStatus::CancelledByUser | JobStatus::Failed | JobStatus::DependencyNotSatisfied =>
-                true,
-            _ => false,
-        }
+        matches!(
+            self,
+            JobStatus::CancelledByUser | JobStatus::Failed | JobStatus::DependencyNotSatisfied
+        )
     }
 
     /// It waits behind another.
     pub fn is_in_queue(self) -> bool
         ensures { result ≡ is_in_queue self }
     {
-        match self {
-            JobStatus::InQueue => true,
-            _ => false,
-        }
+        matches!(self, JobStatus::InQueue)
     }
 }

@@ -1,15 +1,13 @@
 // One job is changed, and the others settle.
 ghost use Rattle.std.specs.Prelude.{◌≡◌, ◌==◌, ◌<◌, All, AllPairs, length, position};
-ghost use Rattle.std.specs.List.{list_all, list_any};
-ghost use Rattle.bl_queue.specs.Statuses.{is_open};
-ghost use Rattle.bl_queue.specs.Jobs.{has_open};
+ghost use Rattle.std.specs.List.{list_all};
+ghost use Rattle.bl_files.specs.Statuses.{is_completed};
 ghost use Rattle.bl_queue.specs.Changes.{ended_job, with_job};
 ghost use Rattle.bl_queue.specs.Doomed.{IsSettled};
 ghost use Rattle.bl_queue.specs.Pass.{AreOrdered};
 ghost use Rattle.bl_queue.specs.Runs.{cancelled_job, closed, job_after_feed, whole_status};
-ghost use Rattle.bl_files.specs.Carried.{is_completed};
 
-use crate::ending_feeds::{is_open, with_end, with_open_ended};
+use crate::ending_feeds::{with_end, with_open_ended};
 use crate::settling::settle;
 use crate::{Job, JobStatus};
 use bl_files::{Feed, FeedEnd, FeedStatus, Log};
@@ -18,7 +16,7 @@ use std::alloc::Global;
 use std::mem;
 
 /// The place of the job of this number.
-pub(crate) fn place_of(jobs: &[Job], number: u32) -> Option<usize>
+pub fn place_of(jobs: &[Job], number: u32) -> Option<usize>
     ensures { result ≡ position (λ job. job.number == number) jobs.now }
 {
     jobs.iter().position(|job| job.number == number)
@@ -44,7 +42,7 @@ fn end_one(jobs: &mut [Job], moment: u64, number: u32, status: JobStatus, log: O
 }
 
 /// The job of this number ends, and the others settle.
-pub(crate) fn with_ended(
+pub fn with_ended(
     jobs: List<Job>,
     moment: u64,
     number: u32,
@@ -82,7 +80,7 @@ fn cancel_one(alloc: Global, jobs: &mut [Job], moment: u64, number: u32)
 }
 
 /// The job of this number is cancelled, and the others settle.
-pub(crate) fn with_cancelled(alloc: Global, jobs: List<Job>, moment: u64, number: u32) -> List<Job>
+pub fn with_cancelled(alloc: Global, jobs: List<Job>, moment: u64, number: u32) -> List<Job>
     requires rising { AllPairs (λ a b. a.number < b.number) jobs }
     requires ordered { AreOrdered (with_job number (cancelled_job moment) jobs) }
     ensures { IsSettled moment (with_job number (cancelled_job moment) jobs) result }
@@ -95,18 +93,12 @@ pub(crate) fn with_cancelled(alloc: Global, jobs: List<Job>, moment: u64, number
 
 // ---- a file of a job ends
 
-fn has_open(feeds: &[Feed]) -> bool
-    ensures { result ≡ list_any (λ feed. is_open feed.status) feeds.now }
-{
-    feeds.iter().any(|feed| is_open(feed.status))
-}
-
 fn is_whole(feeds: &[Feed]) -> bool
     ensures { result ≡ list_all (λ feed. is_completed feed.status) feeds.now }
 {
     feeds
         .iter()
-        .all(|feed| matches!(feed.status, FeedStatus::Completed))
+        .all(|feed| feed.status.is_completed())
 }
 
 fn whole_status(feeds: &[Feed]) -> JobStatus
@@ -120,10 +112,10 @@ fn whole_status(feeds: &[Feed]) -> JobStatus
 }
 
 /// The job ends where each of its files has.
-pub(crate) fn close(job: &mut Job)
+pub fn close(job: &mut Job)
     ensures { job.new ≡ closed job.old }
 {
-    if !has_open(job.feeds.as_slice()) {
+    if !job.has_open() {
         job.status = whole_status(job.feeds.as_slice());
     }
 }
@@ -156,7 +148,7 @@ fn end_one_feed(
 }
 
 /// The file at a place of the job of this number ends, and the jobs settle.
-pub(crate) fn with_feed_ended(
+pub fn with_feed_ended(
     alloc: Global,
     jobs: List<Job>,
     moment: u64,

@@ -35,7 +35,8 @@ fn is_blocked(earlier: &[Job], job: &Job) -> bool
 // The job at a place is blocked by an earlier one.
 fn is_blocked_at(jobs: &[Job], place: usize) -> bool
     requires { place < length jobs.now }
-    ensures { (d : JobValue) → result ≡ is_blocked (take place jobs.now) (slice_index_or jobs.now place d) }
+    ensures { (d : JobValue)
+        → result ≡ is_blocked (take place jobs.now) (slice_index_or jobs.now place d) }
 {
     is_blocked(&jobs[..place], &jobs[place])
 }
@@ -50,7 +51,9 @@ fn end_unsatisfied(job: &mut Job, moment: u64)
 // Ends the job at a place where an earlier one blocks it.
 fn pass(jobs: &mut [Job], place: usize, moment: u64)
     requires { place < length jobs.old }
-    ensures { (d : JobValue) → jobs.new ≡ slice_set jobs.old place (after_pass moment (take place jobs.old) (slice_index_or jobs.old place d)) }
+    ensures { (d : JobValue)
+        → jobs.new ≡ slice_set jobs.old place
+        (after_pass moment (take place jobs.old) (slice_index_or jobs.old place d)) }
 {
     if is_blocked_at(jobs, place) {
         end_unsatisfied(&mut jobs[place], moment);
@@ -79,7 +82,7 @@ fn call_up(job: &mut Job)
 fn front_place(jobs: &[Job]) -> Option<usize>
     ensures { result ≡ position is_unended jobs.now }
 {
-    jobs.iter().position(|job| !job.status.has_ended())
+    jobs.iter().position(|job| job.is_unended())
 }
 
 // The first unended job waits no longer.
@@ -92,7 +95,7 @@ fn call_up_front(jobs: &mut [Job])
 }
 
 /// Ends the jobs that are doomed, and calls up the first that is left.
-pub(crate) fn settle(jobs: &mut [Job], moment: u64)
+pub fn settle(jobs: &mut [Job], moment: u64)
     requires { AreOrdered jobs.old }
     ensures { IsSettled moment jobs.old jobs.new }
 {
@@ -118,7 +121,7 @@ fn drop_oldest(jobs: &mut Vec<Job>)
 }
 
 /// The list with all jobs settled, and trimmed.
-pub(crate) fn with_settled(jobs: List<Job>, moment: u64) -> List<Job>
+pub fn with_settled(jobs: List<Job>, moment: u64) -> List<Job>
     requires { AreOrdered jobs }
     ensures { IsTrimmed moment jobs result }
 {

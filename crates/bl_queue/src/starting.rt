@@ -1,21 +1,27 @@
 // A job is started.
-ghost use Rattle.std.specs.Prelude.{◌≡◌, ◌+◌, ◌<◌, ◌≤◌, ◌^◌, List as Items, length, AllPairs, IfOk, IfSome, IsSomeAnd};
+ghost use Rattle.std.specs.Prelude.{
+    ◌≡◌, ◌+◌, ◌<◌, ◌≤◌, ◌^◌, ◌↔◌, IsTrue, AllPairs, IfOk, IfSome, IsSomeAnd
+};
 ghost use Rattle.std.specs.List.{list_any};
 ghost use Rattle.std.specs.Option.{option_copied};
 ghost use Rattle.bl_files.specs.Carried.{AreCarried, AreFeeds, DifferentNames, found_names};
 ghost use Rattle.bl_queue.specs.Changes.{with_job};
 ghost use Rattle.bl_queue.specs.Doomed.{IsSettled};
 ghost use Rattle.bl_queue.specs.Pass.{AreOrdered};
-ghost use Rattle.bl_queue.specs.Statuses.{is_failed};
-ghost use Rattle.bl_files.specs.declared.feed.Feed.{Feed as FeedValue};
-ghost use Rattle.bl_queue.specs.Runs.{begun, by_mode, feeds_of, goes_on_from, number_of, refused_job, run_after, running_job};
+ghost use Rattle.bl_files.specs.Statuses.{is_failed};
+ghost use Rattle.bl_queue.specs.Runs.{
+    FitsIn, begun, by_mode, feeds_of, goes_on_from, number_of, refused_job, run_after, running_job
+};
 
 use crate::ending_feeds::{bare_log, with_open_ended};
 use crate::running::{close, place_of};
 use crate::searching::{job_of, previous_of};
 use crate::settling::settle;
 use crate::{Job, JobStatus};
-use bl_files::{CarryRefusal, Feed, FeedStatus, Found, Mode, carried_feeds_are_one_list, carry};
+use bl_files::{
+    CarryRefusal, Feed, FeedStatus, Found, MOST_FILES, Mode, carried_feeds_are_one_list,
+    carried_number, carry,
+};
 use bl_outside::{List, NoMemory};
 use bl_value::LogCode;
 use std::alloc::Global;
@@ -30,7 +36,7 @@ fn by_mode<'a>(mode: Mode, previous: Option<&'a Job>) -> Option<&'a Job>
 }
 
 /// The load that the job of this number goes on with.
-pub(crate) fn goes_on_from(jobs: &[Job], number: u32) -> Option<&Job>
+pub fn goes_on_from(jobs: &[Job], number: u32) -> Option<&Job>
     ensures { option_copied result ≡ goes_on_from jobs.now number }
 {
     match job_of(jobs, number) {
@@ -40,7 +46,7 @@ pub(crate) fn goes_on_from(jobs: &[Job], number: u32) -> Option<&Job>
 }
 
 /// The run of a load that goes on from another.
-pub(crate) fn run_after(older: Option<&Job>) -> u32
+pub fn run_after(older: Option<&Job>) -> u32
     requires { IfSome (option_copied older) (λ it. it.run + 1 < 2 ^ 32) }
     ensures { result ≡ run_after (option_copied older.entry) }
 {
@@ -50,7 +56,7 @@ pub(crate) fn run_after(older: Option<&Job>) -> u32
     }
 }
 
-pub(crate) fn number_of(older: Option<&Job>) -> u32
+pub fn number_of(older: Option<&Job>) -> u32
     ensures { result ≡ number_of (option_copied older.entry) }
 {
     match older {
@@ -62,7 +68,7 @@ pub(crate) fn number_of(older: Option<&Job>) -> u32
 fn go_on(alloc: Global, previous: &List<Feed>, found: &List<Found>) -> Result<List<Feed>, NoMemory>
     requires previous { AreFeeds previous.now }
     requires found { DifferentNames (found_names found.now) }
-    requires room { (feeds : Items FeedValue) × AreCarried previous.now found.now feeds × (length feeds ≤ 4096) }
+    requires room { FitsIn previous.now found.now }
     ensures carried { IfOk result (λ feeds. AreCarried previous.now found.now feeds) }
     ensures feeds { IfOk result AreFeeds }
 {
@@ -75,15 +81,16 @@ fn go_on(alloc: Global, previous: &List<Feed>, found: &List<Found>) -> Result<Li
 }
 
 /// The files of a load that goes on from another.
-pub(crate) fn carried(
+pub fn carried(
     alloc: Global,
     older: Option<&Job>,
     found: &List<Found>,
 ) -> Result<List<Feed>, NoMemory>
     requires previous { AreFeeds (feeds_of (option_copied older)) }
     requires found { DifferentNames (found_names found.now) }
-    requires room { (feeds : Items FeedValue) × AreCarried (feeds_of (option_copied older)) found.now feeds × (length feeds ≤ 4096) }
-    ensures carried { IfOk result (λ feeds. AreCarried (feeds_of (option_copied older.entry)) found.now feeds) }
+    requires room { FitsIn (feeds_of (option_copied older)) found.now }
+    ensures carried { IfOk result (λ feeds.
+        AreCarried (feeds_of (option_copied older.entry)) found.now feeds) }
     ensures feeds { IfOk result AreFeeds }
 {
     match older {
@@ -92,12 +99,43 @@ pub(crate) fn carried(
     }
 }
 
+fn carry_fits(
+    alloc: Global,
+    previous: &List<Feed>,
+    found: &List<Found>,
+) -> Result<bool, NoMemory>
+    requires previous { AreFeeds previous.now }
+    requires found { DifferentNames (found_names found.now) }
+    ensures { IfOk result (λ room. IsTrue room ↔ FitsIn previous.now found.now) }
+{
+    carried_feeds_are_one_list();
+    let number = carried_number(alloc, previous, found)?;
+    Ok(number <= MOST_FILES)
+}
+
+/// Whether the files of a load that goes on from another are few enough.
+pub fn fits_in(
+    alloc: Global,
+    older: Option<&Job>,
+    found: &List<Found>,
+) -> Result<bool, NoMemory>
+    requires previous { AreFeeds (feeds_of (option_copied older)) }
+    requires found { DifferentNames (found_names found.now) }
+    ensures { IfOk result (λ room.
+        IsTrue room ↔ FitsIn (feeds_of (option_copied older.entry)) found.now) }
+{
+    match older {
+        Some(job) => carry_fits(alloc, &job.feeds, found),
+        None => carry_fits(alloc, &List::new(alloc), found),
+    }
+}
+
 fn any_failed(feeds: &[Feed]) -> bool
     ensures { result ≡ list_any (λ feed. is_failed feed.status) feeds.now }
 {
     feeds
         .iter()
-        .any(|feed| matches!(feed.status, FeedStatus::Failed))
+        .any(|feed| feed.status.is_failed())
 }
 
 // A file that has failed at once stops a load that is to stop at errors.
@@ -133,7 +171,7 @@ fn run_one(jobs: &mut [Job], moment: u64, number: u32, run: u32, previous: u32, 
 }
 
 /// The job of this number runs with these files, and the jobs settle.
-pub(crate) fn with_running(
+pub fn with_running(
     jobs: List<Job>,
     moment: u64,
     number: u32,
@@ -143,7 +181,8 @@ pub(crate) fn with_running(
 ) -> List<Job>
     requires rising { AllPairs (λ a b. a.number < b.number) jobs }
     requires ordered { AreOrdered (with_job number (running_job moment run previous feeds) jobs) }
-    ensures { IsSettled moment (with_job number (running_job moment run previous feeds) jobs) result }
+    ensures { IsSettled moment
+        (with_job number (running_job moment run previous feeds) jobs) result }
 {
     let mut jobs = jobs.into_vec();
     run_one(&mut jobs, moment, number, run, previous, feeds);
@@ -172,7 +211,7 @@ fn refuse_one(jobs: &mut [Job], moment: u64, number: u32, run: u32, previous: u3
 }
 
 /// The job of this number fails at its start, and the jobs settle.
-pub(crate) fn with_refused(
+pub fn with_refused(
     jobs: List<Job>,
     moment: u64,
     number: u32,
@@ -182,7 +221,8 @@ pub(crate) fn with_refused(
 ) -> List<Job>
     requires rising { AllPairs (λ a b. a.number < b.number) jobs }
     requires ordered { AreOrdered (with_job number (refused_job moment run previous code) jobs) }
-    ensures { IsSettled moment (with_job number (refused_job moment run previous code) jobs) result }
+    ensures { IsSettled moment
+        (with_job number (refused_job moment run previous code) jobs) result }
 {
     let mut jobs = jobs.into_vec();
     refuse_one(&mut jobs, moment, number, run, previous, code);

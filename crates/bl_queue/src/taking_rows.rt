@@ -1,29 +1,30 @@
 // Rows of a file are taken.
-ghost use Rattle.std.specs.Prelude.{◌≡◌, ◌+◌, ◌-◌, ◌<◌, ◌≤◌, ◌^◌, ◌++◌, count_by, drop, length, slice_get, All, AllPairs, IfOk, IsSomeAnd};
+ghost use Rattle.std.specs.Prelude.{
+    ◌≡◌, ◌-◌, ◌<◌, ◌≤◌, ◌^◌, count_by, drop, length, slice_get, All, AllPairs, IsSomeAnd, OnErr,
+    OnOk
+};
 ghost use Rattle.bl_files.specs.Codes.{class_of};
-ghost use Rattle.bl_queue.specs.Jobs.{HasCounts, job_of};
+ghost use Rattle.bl_queue.specs.Limits.{record_limit};
 ghost use Rattle.bl_queue.specs.Changes.{with_job};
-ghost use Rattle.bl_queue.specs.Doomed.{IsSettled};
-ghost use Rattle.bl_queue.specs.Pass.{AreOrdered};
 ghost use Rattle.bl_queue.specs.Runs.{with_feed};
-ghost use Rattle.bl_queue.specs.Rows.{MayTake, counts_after, fed_feed, fed_job, is_datatype, is_insert, is_parsing, last_logs, logs_at, logs_of};
+ghost use Rattle.bl_queue.specs.Rows.{
+    MayTake, counts_after, fed_feed, fed_job, is_datatype, is_insert, is_parsing, last_logs
+};
 
 use crate::Job;
 use crate::running::place_of;
-use crate::searching::job_of;
-use crate::settling::settle;
-use bl_files::{Counts, ErrorClass, Feed, FeedStatus, Log, class_of};
+use bl_files::{Counts, ErrorClass, Feed, FeedStatus, Log, MOST_LOGS, class_of};
 use bl_outside::{Digest, List, NoMemory};
 use bl_value::LogCode;
 use std::alloc::Global;
 use std::mem;
 
-/// The most logs of records that a job keeps.
-pub const MOST_LOGS: usize = 10000;
+/// Of each file fewer records than this are taken: 2^48.
+pub const RECORD_LIMIT: u64 = 1 << 48;
 
 /// How many records were taken, and how many of them said nothing new; the digest behind them.
 #[derive(Clone, Copy, Debug)]
-pub(crate) struct Taken {
+pub struct Taken {
     pub rows: u32,
     pub duplicates: u32,
     pub digest: Digest,
@@ -69,11 +70,11 @@ fn insert_count(logs: &[Log]) -> u64
 }
 
 fn counts_after(counts: &Counts, taken: Taken, logs: &[Log]) -> Counts
-    requires records { counts.now.records < 2 ^ 48 }
-    requires duplicates { counts.now.duplicates < 2 ^ 48 }
-    requires parsing { counts.now.parsing < 2 ^ 48 }
-    requires datatype { counts.now.datatype < 2 ^ 48 }
-    requires insert { counts.now.insert < 2 ^ 48 }
+    requires records { counts.now.records < record_limit }
+    requires duplicates { counts.now.duplicates < record_limit }
+    requires parsing { counts.now.parsing < record_limit }
+    requires datatype { counts.now.datatype < record_limit }
+    requires insert { counts.now.insert < record_limit }
     requires few { length logs.now < 2 ^ 32 }
     ensures { result ≡ counts_after taken.rows taken.duplicates logs.now counts.now }
 {
@@ -86,70 +87,52 @@ fn counts_after(counts: &Counts, taken: Taken, logs: &[Log]) -> Counts
     }
 }
 
-// The logs with the new ones are handed in.
-fn feed_one(feed: &mut Feed, taken: Taken, logs: &[Log], all: List<Log>)
-    requires counts { HasCounts feed.old }
-    requires room { feed.old.taken + taken.rows < 2 ^ 48 }
-    requires few { taken.duplicates + length logs.now ≤ taken.rows }
-    requires all { all ≡ feed.old.logs ++ logs.now }
-    ensures { feed.new ≡ fed_feed taken.rows taken.digest taken.duplicates logs.now feed.old }
+// The memory for the logs is taken first.
+fn feed_one(feed: &mut Feed, taken: Taken, logs: &[Log]) -> Result<(), NoMemory>
+    requires { MayTake taken.rows taken.duplicates logs.now feed.old }
+    ensures ok { OnOk result (feed.new
+        ≡ fed_feed taken.rows taken.digest taken.duplicates logs.now feed.old) }
+    ensures err { OnErr result (feed.new ≡ feed.old) }
 {
+    feed.logs.extend(logs)?;
     feed.counts = counts_after(&feed.counts, taken, logs);
     feed.status = FeedStatus::InProgress;
     feed.taken += taken.rows as u64;
     feed.digest = taken.digest;
-    feed.logs = all;
-}
-
-fn without_first(logs: List<Log>, number: usize) -> List<Log>
-    requires { number ≤ length logs }
-    ensures { result ≡ drop number logs }
-{
-    let mut logs = logs.into_vec();
-    logs.drain(..number);
-    List::from_vec(logs)
-}
-
-fn drop_first(alloc: Global, feed: &mut Feed, number: usize)
-    requires { number ≤ length feed.old.logs }
-    ensures { feed.new ≡ record feed.old { logs = drop number feed.old.logs } }
-{
-    let logs = mem::replace(&mut feed.logs, List::new(alloc));
-    feed.logs = without_first(logs, number);
+    Ok(())
 }
 
 // Keeps the last logs for which there is room, and answers the room that is left.
-fn keep_last(alloc: Global, feed: &mut Feed, room: usize) -> usize
-    ensures kept { feed.new ≡ record feed.old { logs = drop (length feed.old.logs - room) feed.old.logs } }
+fn keep_last(feed: &mut Feed, room: usize) -> usize
+    ensures kept { feed.new
+        ≡ record feed.old { logs = drop (length feed.old.logs - room) feed.old.logs } }
     ensures left { result ≡ room - length feed.old.logs }
 {
     let number = feed.logs.len();
-    drop_first(alloc, feed, number.saturating_sub(room));
+    feed.logs.drop_front(number.saturating_sub(room));
     room.saturating_sub(number)
 }
 
-fn keep_last_logs(alloc: Global, feeds: &mut [Feed])
+fn keep_last_logs(feeds: &mut [Feed])
     ensures { feeds.new ≡ last_logs feeds.old }
 {
     let mut room = MOST_LOGS;
     for place in (0..feeds.len()).rev() {
-        room = keep_last(alloc, &mut feeds[place], room);
+        room = keep_last(&mut feeds[place], room);
     }
 }
 
-fn feed_at(
-    alloc: Global,
-    feeds: &mut [Feed],
-    place: usize,
-    taken: Taken,
-    logs: &[Log],
-    all: List<Log>,
-)
-    requires { IsSomeAnd (slice_get feeds.old place) (λ feed. MayTake taken.rows taken.duplicates logs.now all feed) }
-    ensures { feeds.new ≡ last_logs (with_feed place (fed_feed taken.rows taken.digest taken.duplicates logs.now) feeds.old) }
+fn feed_at(feeds: &mut [Feed], place: usize, taken: Taken, logs: &[Log]) -> Result<(), NoMemory>
+    requires { IsSomeAnd (slice_get feeds.old place) (λ feed.
+        MayTake taken.rows taken.duplicates logs.now feed) }
+    ensures ok { OnOk result (feeds.new
+        ≡ last_logs (with_feed place
+            (fed_feed taken.rows taken.digest taken.duplicates logs.now) feeds.old)) }
+    ensures err { OnErr result (feeds.new ≡ feeds.old) }
 {
-    feed_one(&mut feeds[place], taken, logs, all);
-    keep_last_logs(alloc, feeds);
+    feed_one(&mut feeds[place], taken, logs)?;
+    keep_last_logs(feeds);
+    Ok(())
 }
 
 fn feed_job(
@@ -159,15 +142,19 @@ fn feed_job(
     place: usize,
     taken: Taken,
     logs: &[Log],
-    all: List<Log>,
-)
-    requires { IsSomeAnd (slice_get job.old.feeds place) (λ feed. MayTake taken.rows taken.duplicates logs.now all feed) }
-    ensures { job.new ≡ fed_job moment place taken.rows taken.digest taken.duplicates logs.now job.old }
+) -> Result<(), NoMemory>
+    requires { IsSomeAnd (slice_get job.old.feeds place) (λ feed.
+        MayTake taken.rows taken.duplicates logs.now feed) }
+    ensures ok { OnOk result (job.new
+        ≡ fed_job moment place taken.rows taken.digest taken.duplicates logs.now job.old) }
+    ensures err { OnErr result (job.new ≡ job.old) }
 {
     let mut feeds = mem::replace(&mut job.feeds, List::new(alloc)).into_vec();
-    feed_at(alloc, &mut feeds, place, taken, logs, all);
+    let done = feed_at(&mut feeds, place, taken, logs);
     job.feeds = List::from_vec(feeds);
+    done?;
     job.latest = moment;
+    Ok(())
 }
 
 fn feed_one_job(
@@ -178,20 +165,25 @@ fn feed_one_job(
     place: usize,
     taken: Taken,
     logs: &[Log],
-    all: List<Log>,
-)
+) -> Result<(), NoMemory>
     requires rising { AllPairs (λ a b. a.number < b.number) jobs.old }
-    requires may { All (λ job. job.number ≡ number → IsSomeAnd (slice_get job.feeds place) (λ feed. MayTake taken.rows taken.duplicates logs.now all feed)) jobs.old }
-    ensures { jobs.new ≡ with_job number (fed_job moment place taken.rows taken.digest taken.duplicates logs.now) jobs.old }
+    requires may { All (λ job. job.number ≡ number
+        → IsSomeAnd (slice_get job.feeds place) (λ feed.
+            MayTake taken.rows taken.duplicates logs.now feed)) jobs.old }
+    ensures ok { OnOk result (jobs.new
+        ≡ with_job number
+            (fed_job moment place taken.rows taken.digest taken.duplicates logs.now) jobs.old) }
+    ensures err { OnErr result (jobs.new ≡ jobs.old) }
 {
-    if let Some(found) = place_of(jobs, number) {
-        feed_job(alloc, &mut jobs[found], moment, place, taken, logs, all);
+    match place_of(jobs, number) {
+        Some(found) => feed_job(alloc, &mut jobs[found], moment, place, taken, logs),
+        None => Ok(()),
     }
 }
 
-/// Rows of a file of the job of this number are taken, and the jobs settle. The logs of the file with
-/// the new ones are handed in.
-pub(crate) fn with_rows(
+/// Rows of a file of the job of this number are taken, and nothing else is changed. The jobs are
+/// handed back also where memory ran out.
+pub fn with_rows(
     alloc: Global,
     jobs: List<Job>,
     moment: u64,
@@ -199,48 +191,16 @@ pub(crate) fn with_rows(
     place: usize,
     taken: Taken,
     logs: &[Log],
-    all: List<Log>,
-) -> List<Job>
+) -> (List<Job>, Result<(), NoMemory>)
     requires rising { AllPairs (λ a b. a.number < b.number) jobs }
-    requires may { All (λ job. job.number ≡ number → IsSomeAnd (slice_get job.feeds place) (λ feed. MayTake taken.rows taken.duplicates logs.now all feed)) jobs }
-    requires ordered { AreOrdered (with_job number (fed_job moment place taken.rows taken.digest taken.duplicates logs.now) jobs) }
-    ensures { IsSettled moment (with_job number (fed_job moment place taken.rows taken.digest taken.duplicates logs.now) jobs) result }
+    requires may { All (λ job. job.number ≡ number
+        → IsSomeAnd (slice_get job.feeds place) (λ feed.
+            MayTake taken.rows taken.duplicates logs.now feed)) jobs }
+    ensures ok { OnOk result.1 (result.0 ≡ with_job number
+        (fed_job moment place taken.rows taken.digest taken.duplicates logs.now) jobs) }
+    ensures err { OnErr result.1 (result.0 ≡ jobs) }
 {
     let mut jobs = jobs.into_vec();
-    feed_one_job(alloc, &mut jobs, moment, number, place, taken, logs, all);
-    settle(&mut jobs, moment);
-    List::from_vec(jobs)
-}
-
-fn joined(alloc: Global, old: &[Log], new: &[Log]) -> Result<List<Log>, NoMemory>
-    ensures { IfOk result (λ all. all ≡ old.now ++ new.now) }
-{
-    let mut all = Vec::from_slice(alloc, old)?;
-    all.extend_from_slice(new)?;
-    Ok(List::from_vec(all))
-}
-
-fn logs_at(feeds: &[Feed], place: usize) -> &[Log]
-    ensures { result.now ≡ logs_at feeds.now place }
-{
-    match feeds.get(place) {
-        Some(feed) => feed.logs.as_slice(),
-        None => &[],
-    }
-}
-
-/// The logs of a file of the job of this number, and then new ones.
-pub(crate) fn logs_with(
-    alloc: Global,
-    jobs: &[Job],
-    number: u32,
-    place: usize,
-    logs: &[Log],
-) -> Result<List<Log>, NoMemory>
-    ensures { IfOk result (λ all. all ≡ logs_of (job_of number jobs.now) place ++ logs.now) }
-{
-    match job_of(jobs, number) {
-        Some(job) => joined(alloc, logs_at(job.feeds.as_slice(), place), logs),
-        None => joined(alloc, &[], logs),
-    }
+    let done = feed_one_job(alloc, &mut jobs, moment, number, place, taken, logs);
+    (List::from_vec(jobs), done)
 }

@@ -1,19 +1,7 @@
 // Loads taken on, refused and ended.
-ghost use Rattle.std.specs.Prelude.{◌≡◌, ◌+◌, ◌-◌, ◌<◌, ◌≤◌, ◌^◌, length, true, false, IfOk, IsSomeAnd, IsTrue, slice_get};
-ghost use Rattle.bl_queue.specs.Jobs.{front_job, has_open, is_unended, job_of};
-ghost use Rattle.bl_queue.specs.declared.job_status.JobStatus.TheVariants.{NotStarted};
-ghost use Rattle.bl_files.specs.Carried.{DifferentNames, found_names};
-ghost use Rattle.bl_files.specs.declared.plan_result.PlanResult.TheVariants.{Feeds};
-ghost use Rattle.bl_queue.specs.Rows.{MayFeed};
-ghost use Rattle.bl_queue.specs.Runs.{HasNames, HasRoom, IsOpenAt};
-ghost use Rattle.bl_queue.specs.Statuses.{is_open};
-
-use crate::ending_feeds::is_open;
-use crate::searching::{front_of, job_of};
-use crate::starting::goes_on_from;
-use crate::{CheckRefusal, JobStatus, Jobs, MOST_KEPT};
+use crate::{CheckRefusal, JobStatus, Jobs, MOST_KEPT, copy_jobs};
 use bl_files::{
-    Feed, FeedEnd, FeedKind, FeedStatus, Found, LoadRequest, Log, Mode, PlanResult, carry,
+    FeedEnd, FeedKind, FeedStatus, Found, LoadRequest, Log, Mode, PlanResult, totals,
 };
 use bl_outside::{Digest, List, NoMemory, Text};
 use bl_value::LogCode;
@@ -21,24 +9,26 @@ use std::alloc::Global;
 
 // A load of a source that depends on the loads of these ids.
 fn request(alloc: Global, queue: bool, ids: &[u128]) -> Result<LoadRequest, NoMemory> {
-    request_of(alloc, b"s3://bucket/key", queue, ids)
+    request_of(alloc, "s3://bucket/key", queue, ids)
 }
 
 fn request_of(
     alloc: Global,
-    source: &[u8],
+    source: &str,
     queue: bool,
     ids: &[u128],
 ) -> Result<LoadRequest, NoMemory> {
+    let mut dependencies = List::new(alloc);
+    dependencies.extend(ids)?;
     Ok(LoadRequest {
-        source: Text::copy_of(alloc, source)?,
+        source: Text::of_str(alloc, source)?,
         format: 0,
         mode: Mode::Auto,
         fail_on_error: true,
         update_single: false,
         parallelism: 3,
         queue,
-        dependencies: List::from_vec(Vec::from_slice(alloc, ids)?),
+        dependencies,
     })
 }
 
@@ -46,6 +36,9 @@ fn request_of(
 fn ask(jobs: &mut Jobs, request: LoadRequest) -> Result<Option<u32>, CheckRefusal> {
     jobs.check(&request)?;
     let id = jobs.last() as u128 + 1;
+    if !jobs.has_next_number(id) {
+        return Ok(None);
+    }
     Ok(jobs.submit(7, id, request).ok())
 }
 
@@ -56,18 +49,8 @@ fn ask_with(alloc: Global, jobs: &mut Jobs, ids: &[u128]) -> Result<Option<u32>,
     }
 }
 
-// The job is there, hasn't ended and has no file.
-fn may_end(jobs: &Jobs, number: u32) -> bool
-    ensures { IsTrue result → IsSomeAnd (job_of number jobs.now.jobs) (λ it. (is_unended it ≡ true) × (has_open it ≡ false)) }
-{
-    match job_of(jobs.kept().as_slice(), number) {
-        Some(job) => !job.status.has_ended() && job.feeds.len() == 0,
-        None => false,
-    }
-}
-
 fn fail(jobs: &mut Jobs, moment: u64, number: u32) -> bool {
-    if may_end(jobs, number) {
+    if jobs.may_end(number) {
         let log = Log {
             code: LogCode::SourceNotFound,
             number: 0,
@@ -81,7 +64,7 @@ fn fail(jobs: &mut Jobs, moment: u64, number: u32) -> bool {
 }
 
 fn complete(jobs: &mut Jobs, number: u32) -> bool {
-    if may_end(jobs, number) {
+    if jobs.may_end(number) {
         jobs.end(9, number, JobStatus::Completed, None);
         true
     } else {
@@ -90,7 +73,7 @@ fn complete(jobs: &mut Jobs, number: u32) -> bool {
 }
 
 fn status_of(jobs: &Jobs, number: u32) -> Option<JobStatus> {
-    job_of(jobs.kept().as_slice(), number).map(|job| job.status)
+    jobs.job(number).map(|job| job.status)
 }
 
 #[test]
@@ -179,99 +162,44 @@ fn the_newest_1024_are_kept(rt: HostRuntime) {
     assert!(rt; status_of(&jobs, 2) == None && status_of(&jobs, 3).is_some());
 }
 
-fn may_start(jobs: &Jobs, number: u32) -> bool
-    ensures { IsTrue result → IsSomeAnd (front_job jobs.now.jobs) (λ it. (it.number ≡ number) × (it.status ≡ NotStarted)) }
-{
-    match front_of(jobs.kept().as_slice()) {
-        Some(job) => job.number == number && matches!(job.status, JobStatus::NotStarted),
-        None => false,
-    }
-}
-
-fn is_open_at(feeds: &[Feed], place: u32) -> bool
-    ensures { IsTrue result → IsSomeAnd (slice_get feeds.now place) (λ feed. is_open feed.status ≡ true) }
-{
-    match feeds.get(place as usize) {
-        Some(feed) => is_open(feed.status),
-        None => false,
-    }
-}
-
-fn may_end_feed(jobs: &Jobs, number: u32, feed: u32) -> bool
-    requires { 1 ≤ feed }
-    ensures { IsTrue result → IsSomeAnd (front_job jobs.now.jobs) (λ it. (it.number ≡ number) × IsOpenAt (feed - 1) it) }
-{
-    match front_of(jobs.kept().as_slice()) {
-        Some(job) => job.number == number && is_open_at(job.feeds.as_slice(), feed - 1),
-        None => false,
-    }
-}
-
-fn file(alloc: Global, name: &[u8], kind: FeedKind) -> Result<Found, NoMemory>
-    ensures { IfOk result (λ file. file.name ≡ name.now) }
-{
+fn file(alloc: Global, name: &str, kind: FeedKind) -> Result<Found, NoMemory> {
     Ok(Found {
-        name: Text::copy_of(alloc, name)?,
+        name: Text::of_str(alloc, name)?,
         kind,
         digest: Digest { bytes: [1; 32] },
     })
 }
 
 // The files a and b, the first of this kind.
-fn two_files_of(alloc: Global, kind: FeedKind) -> Result<PlanResult, NoMemory>
-    ensures { IfOk result HasNames }
-{
+fn two_files_of(alloc: Global, kind: FeedKind) -> Result<PlanResult, NoMemory> {
     let mut found = List::new(alloc);
-    found.push(file(alloc, b"a", kind)?)?;
-    found.push(file(alloc, b"b", FeedKind::Vertex)?)?;
+    found.push(file(alloc, "a", kind)?)?;
+    found.push(file(alloc, "b", FeedKind::Vertex)?)?;
     Ok(PlanResult::Feeds(found))
 }
 
-fn two_files(alloc: Global) -> Result<PlanResult, NoMemory>
-    ensures { IfOk result HasNames }
-{
+fn two_files(alloc: Global) -> Result<PlanResult, NoMemory> {
     two_files_of(alloc, FeedKind::Vertex)
 }
 
-fn no_files(alloc: Global) -> PlanResult
-    ensures { HasNames result }
-{
+fn no_files(alloc: Global) -> PlanResult {
     PlanResult::Feeds(List::new(alloc))
 }
 
-// The files that go on are not too many.
-fn may_go_on(alloc: Global, jobs: &Jobs, number: u32, found: &List<Found>) -> bool
-    requires { DifferentNames (found_names found.now) }
-    ensures { IsTrue result → HasRoom jobs.now.jobs number (Feeds found.now) }
-{
-    match goes_on_from(jobs.kept().as_slice(), number) {
-        Some(older) => carry(alloc, &older.feeds, found).is_ok(),
-        None => carry(alloc, &List::new(alloc), found).is_ok(),
-    }
-}
-
-fn has_room(alloc: Global, jobs: &Jobs, number: u32, plan: &PlanResult) -> bool
-    requires { HasNames plan.now }
-    ensures { IsTrue result → HasRoom jobs.now.jobs number plan.now }
-{
-    match plan {
-        PlanResult::Feeds(found) => may_go_on(alloc, jobs, number, found),
-        _ => true,
-    }
-}
-
 // The job is the next to start, and is started.
-fn start(alloc: Global, jobs: &mut Jobs, number: u32, plan: &PlanResult) -> bool
-    requires { HasNames plan.now }
-{
-    may_start(jobs, number)
-        && has_room(alloc, jobs, number, plan)
-        && jobs.start(20, number, plan).is_ok()
+fn start(jobs: &mut Jobs, number: u32, plan: &PlanResult) -> bool {
+    if !plan.has_rising_names() || !plan.has_file_codes() || !jobs.may_start(number) {
+        return false;
+    }
+    match jobs.has_room(number, plan) {
+        Ok(true) => jobs.start(20, number, plan).is_ok(),
+        _ => false,
+    }
 }
 
 // The file of this number, counted from 1, is one that hasn't ended, and ends.
 fn end_feed(jobs: &mut Jobs, number: u32, feed: u32, end: FeedEnd) -> bool {
-    if feed > 0 && may_end_feed(jobs, number, feed) {
+    if jobs.may_end_feed(number, feed) {
         jobs.end_feed(30, number, feed, end);
         true
     } else {
@@ -280,7 +208,7 @@ fn end_feed(jobs: &mut Jobs, number: u32, feed: u32, end: FeedEnd) -> bool {
 }
 
 fn feed_status(jobs: &Jobs, number: u32, place: usize) -> Option<FeedStatus> {
-    match job_of(jobs.kept().as_slice(), number) {
+    match jobs.job(number) {
         Some(job) => job.feeds.get(place).map(|feed| feed.status),
         None => None,
     }
@@ -289,12 +217,12 @@ fn feed_status(jobs: &Jobs, number: u32, place: usize) -> Option<FeedStatus> {
 #[test]
 fn a_load_goes_on_from_the_newest_of_its_source(rt: HostRuntime) {
     let mut jobs = Jobs::new(rt.alloc());
-    let sources: [&[u8]; 5] = [
-        b"s3://b/k",
-        b"s3://b/other",
-        b"s3://b/k",
-        b"s3://b/k",
-        b"s3://b/k",
+    let sources = [
+        "s3://b/k",
+        "s3://b/other",
+        "s3://b/k",
+        "s3://b/k",
+        "s3://b/k",
     ];
     for source in sources {
         let request = request_of(rt.alloc(), source, true, &[]).expect(&rt, "memory");
@@ -302,16 +230,16 @@ fn a_load_goes_on_from_the_newest_of_its_source(rt: HostRuntime) {
     }
     let none = no_files(rt.alloc());
     assert!(rt;
-        start(rt.alloc(), &mut jobs, 1, &none) && status_of(&jobs, 1) == Some(JobStatus::Completed)
+        start(&mut jobs, 1, &none) && status_of(&jobs, 1) == Some(JobStatus::Completed)
     );
-    assert!(rt; start(rt.alloc(), &mut jobs, 2, &none) && jobs.front() == Some(3));
+    assert!(rt; start(&mut jobs, 2, &none) && jobs.front() == Some(3));
     assert!(rt; jobs.previous(2) == None && jobs.previous(3) == Some(1));
-    assert!(rt; start(rt.alloc(), &mut jobs, 3, &PlanResult::ListFault));
+    assert!(rt; start(&mut jobs, 3, &PlanResult::ListFault));
     assert!(rt; status_of(&jobs, 3) == Some(JobStatus::Failed));
     assert!(rt; jobs.previous(4) == Some(1) && jobs.previous(5) == Some(1));
-    assert!(rt; start(rt.alloc(), &mut jobs, 4, &none));
+    assert!(rt; start(&mut jobs, 4, &none));
     assert!(rt; jobs.previous(4) == Some(1) && jobs.previous(5) == Some(4));
-    assert!(rt; start(rt.alloc(), &mut jobs, 5, &none) && jobs.front() == None);
+    assert!(rt; start(&mut jobs, 5, &none) && jobs.front() == None);
     let runs = [1, 1, 2, 2, 3];
     let previous = [0, 0, 1, 1, 4];
     for (i, job) in jobs.kept().as_slice().iter().enumerate() {
@@ -329,17 +257,17 @@ fn the_end_of_a_file_stops_or_ends_the_job(rt: HostRuntime) {
     assert!(rt; ask_with(rt.alloc(), &mut jobs, &[1]) == Ok(Some(2)));
     assert!(rt; ask_with(rt.alloc(), &mut jobs, &[]) == Ok(Some(3)));
     let plan = two_files(rt.alloc()).expect(&rt, "memory");
-    assert!(rt; start(rt.alloc(), &mut jobs, 1, &plan));
+    assert!(rt; start(&mut jobs, 1, &plan));
     assert!(rt; status_of(&jobs, 1) == Some(JobStatus::InProgress));
     assert!(rt; end_feed(&mut jobs, 1, 1, FeedEnd::Completed));
     assert!(rt; status_of(&jobs, 1) == Some(JobStatus::InProgress));
     assert!(rt; !end_feed(&mut jobs, 1, 1, FeedEnd::Completed));
     assert!(rt; end_feed(&mut jobs, 1, 2, FeedEnd::Completed));
     assert!(rt; status_of(&jobs, 1) == Some(JobStatus::Completed));
-    assert!(rt; start(rt.alloc(), &mut jobs, 2, &plan));
+    assert!(rt; start(&mut jobs, 2, &plan));
     assert!(rt; status_of(&jobs, 2) == Some(JobStatus::Completed));
     assert!(rt;
-        start(rt.alloc(), &mut jobs, 3, &PlanResult::SourceNotFound) && jobs.front() == None
+        start(&mut jobs, 3, &PlanResult::SourceNotFound) && jobs.front() == None
     );
 }
 
@@ -350,12 +278,12 @@ fn a_file_that_is_not_read_stops_a_load_that_is_to_stop(rt: HostRuntime) {
         (false, JobStatus::InProgress, FeedStatus::NotStarted),
     ] {
         let mut jobs = Jobs::new(rt.alloc());
-        let mut request = request_of(rt.alloc(), b"s3://b/k", true, &[]).expect(&rt, "memory");
+        let mut request = request_of(rt.alloc(), "s3://b/k", true, &[]).expect(&rt, "memory");
         request.fail_on_error = stops;
         assert!(rt; ask(&mut jobs, request).is_ok());
         let refused = FeedKind::Refused(LogCode::Header, 2);
         let plan = two_files_of(rt.alloc(), refused).expect(&rt, "memory");
-        assert!(rt; start(rt.alloc(), &mut jobs, 1, &plan));
+        assert!(rt; start(&mut jobs, 1, &plan));
         assert!(rt; status_of(&jobs, 1) == Some(job), "{stops}");
         assert!(rt;
             feed_status(&jobs, 1, 0) == Some(FeedStatus::Failed),
@@ -372,60 +300,26 @@ fn a_stop_and_a_cancel_end_every_file(rt: HostRuntime) {
     assert!(rt; ask_with(rt.alloc(), &mut jobs, &[1]) == Ok(Some(2)));
     assert!(rt; ask_with(rt.alloc(), &mut jobs, &[]) == Ok(Some(3)));
     let plan = two_files(rt.alloc()).expect(&rt, "memory");
-    assert!(rt; start(rt.alloc(), &mut jobs, 1, &plan));
+    assert!(rt; start(&mut jobs, 1, &plan));
     assert!(rt; end_feed(&mut jobs, 1, 1, FeedEnd::Modified));
     assert!(rt; status_of(&jobs, 1) == Some(JobStatus::Failed));
     assert!(rt; feed_status(&jobs, 1, 0) == Some(FeedStatus::Modified));
     assert!(rt; feed_status(&jobs, 1, 1) == Some(FeedStatus::CancelledDueToErrors));
     assert!(rt; status_of(&jobs, 2) == Some(JobStatus::DependencyNotSatisfied));
-    assert!(rt; start(rt.alloc(), &mut jobs, 3, &plan));
+    assert!(rt; start(&mut jobs, 3, &plan));
     assert!(rt; cancel(&mut jobs, 3) && !cancel(&mut jobs, 3));
     assert!(rt; status_of(&jobs, 3) == Some(JobStatus::CancelledByUser));
     assert!(rt; feed_status(&jobs, 3, 0) == Some(FeedStatus::CancelledByUser));
     assert!(rt; feed_status(&jobs, 3, 1) == Some(FeedStatus::CancelledByUser));
 }
 
-fn is_kept_unended(jobs: &Jobs, number: u32) -> bool
-    ensures { IsTrue result → IsSomeAnd (job_of number jobs.now.jobs) (λ it. is_unended it ≡ true) }
-{
-    match job_of(jobs.kept().as_slice(), number) {
-        Some(job) => !job.status.has_ended(),
-        None => false,
-    }
-}
-
 fn cancel(jobs: &mut Jobs, number: u32) -> bool {
-    if is_kept_unended(jobs, number) {
+    if jobs.may_cancel(number) {
         jobs.cancel(40, number);
         true
     } else {
         false
     }
-}
-
-fn can_take(feeds: &[Feed], place: u32, rows: u32) -> bool
-    ensures { IsTrue result → IsSomeAnd (slice_get feeds.now place) (λ feed. (is_open feed.status ≡ true) × (feed.taken + rows < 2 ^ 48)) }
-{
-    match feeds.get(place as usize) {
-        Some(feed) => is_open(feed.status) && feed.taken < 281474976710656 - rows as u64,
-        None => false,
-    }
-}
-
-fn may_take(jobs: &Jobs, number: u32, feed: u32, rows: u32) -> bool
-    requires { 1 ≤ feed }
-    ensures { IsTrue result → IsSomeAnd (front_job jobs.now.jobs) (λ it. (it.number ≡ number) × MayFeed (feed - 1) rows it) }
-{
-    match front_of(jobs.kept().as_slice()) {
-        Some(job) => job.number == number && can_take(job.feeds.as_slice(), feed - 1, rows),
-        None => false,
-    }
-}
-
-fn are_few(duplicates: u32, logs: &List<Log>, rows: u32) -> bool
-    ensures { IsTrue result → duplicates + length logs.now ≤ rows }
-{
-    logs.len() <= rows as usize && duplicates as usize <= rows as usize - logs.len()
 }
 
 // The file of this number, counted from 1, takes rows.
@@ -438,7 +332,7 @@ fn take(
     logs: &List<Log>,
 ) -> bool {
     let digest = Digest { bytes: [9; 32] };
-    if feed > 0 && may_take(jobs, number, feed, rows) && are_few(duplicates, logs, rows) {
+    if jobs.may_take_rows(number, feed, rows, duplicates, logs.len()) {
         jobs.rows(50, number, feed, rows, digest, duplicates, logs)
             .is_ok()
     } else {
@@ -464,7 +358,7 @@ fn rows_are_counted_and_the_last_logs_stay(rt: HostRuntime) {
     let mut jobs = Jobs::new(rt.alloc());
     assert!(rt; ask_with(rt.alloc(), &mut jobs, &[]) == Ok(Some(1)));
     let plan = two_files(rt.alloc()).expect(&rt, "memory");
-    assert!(rt; start(rt.alloc(), &mut jobs, 1, &plan));
+    assert!(rt; start(&mut jobs, 1, &plan));
     let one = many_logs(rt.alloc(), 1).expect(&rt, "memory");
     assert!(rt; take(&mut jobs, 1, 1, 3, 2, &one));
     assert!(rt; !take(&mut jobs, 1, 1, 3, 3, &one));
@@ -473,8 +367,7 @@ fn rows_are_counted_and_the_last_logs_stay(rt: HostRuntime) {
     assert!(rt; take(&mut jobs, 1, 1, 7000, 0, &many));
     assert!(rt; end_feed(&mut jobs, 1, 1, FeedEnd::Completed));
     assert!(rt; take(&mut jobs, 1, 2, 6000, 0, &many));
-    let kept = jobs.kept();
-    let job = kept.get(0).expect(&rt, "there");
+    let job = jobs.job(1).expect(&rt, "there");
     assert!(rt; job.latest == 50 && job.feeds.len() == 2);
     let feed = job.feeds.get(0).expect(&rt, "there");
     assert!(rt; feed.taken == 7003 && feed.digest.bytes[0] == 9);
@@ -485,4 +378,134 @@ fn rows_are_counted_and_the_last_logs_stay(rt: HostRuntime) {
     assert!(rt; log.number == 2001);
     let last = job.feeds.get(1).expect(&rt, "there");
     assert!(rt; last.logs.len() == 6000);
+}
+
+// A job of the files a and b of this source has started, and stops at errors where it is to.
+fn running(alloc: Global, fail_on_error: bool) -> Result<Option<Jobs>, NoMemory> {
+    let mut jobs = Jobs::new(alloc);
+    let mut request = request_of(alloc, "s3://b/k", true, &[])?;
+    request.fail_on_error = fail_on_error;
+    let plan = two_files(alloc)?;
+    if ask(&mut jobs, request) == Ok(Some(1)) && start(&mut jobs, 1, &plan) {
+        Ok(Some(jobs))
+    } else {
+        Ok(None)
+    }
+}
+
+// 1,000 rows of the first file, and then the refusal of the next.
+#[test]
+fn a_refused_record_stops_the_load(rt: HostRuntime) {
+    let jobs = running(rt.alloc(), true).expect(&rt, "memory");
+    let mut jobs = jobs.expect(&rt, "started");
+    let none = List::new(rt.alloc());
+    assert!(rt; take(&mut jobs, 1, 1, 1000, 0, &none));
+    let log = Log {
+        code: LogCode::NotOfType,
+        number: 1001,
+        column: 2,
+    };
+    assert!(rt; end_feed(&mut jobs, 1, 1, FeedEnd::Stopped(log)));
+    assert!(rt; status_of(&jobs, 1) == Some(JobStatus::Failed) && jobs.front() == None);
+    assert!(rt; feed_status(&jobs, 1, 0) == Some(FeedStatus::Failed));
+    assert!(rt; feed_status(&jobs, 1, 1) == Some(FeedStatus::CancelledDueToErrors));
+    let job = jobs.job(1).expect(&rt, "there");
+    let total = totals(&job.feeds);
+    assert!(rt; total.records == 1001 && total.duplicates == 0 && total.parsing == 0);
+    assert!(rt; total.datatype == 1 && total.insert == 0);
+}
+
+#[test]
+fn a_load_goes_on_after_a_change_where_it_may_and_stops_at_a_read_fault(rt: HostRuntime) {
+    let jobs = running(rt.alloc(), false).expect(&rt, "memory");
+    let mut jobs = jobs.expect(&rt, "started");
+    assert!(rt; end_feed(&mut jobs, 1, 1, FeedEnd::Modified));
+    assert!(rt; status_of(&jobs, 1) == Some(JobStatus::InProgress));
+    assert!(rt; feed_status(&jobs, 1, 0) == Some(FeedStatus::Modified));
+    assert!(rt; feed_status(&jobs, 1, 1) == Some(FeedStatus::NotStarted));
+    assert!(rt; end_feed(&mut jobs, 1, 2, FeedEnd::Completed));
+    assert!(rt; status_of(&jobs, 1) == Some(JobStatus::Failed));
+    let jobs = running(rt.alloc(), false).expect(&rt, "memory");
+    let mut jobs = jobs.expect(&rt, "started");
+    assert!(rt; end_feed(&mut jobs, 1, 1, FeedEnd::ReadError));
+    assert!(rt; status_of(&jobs, 1) == Some(JobStatus::Failed));
+    assert!(rt; feed_status(&jobs, 1, 0) == Some(FeedStatus::ReadError));
+    assert!(rt; feed_status(&jobs, 1, 1) == Some(FeedStatus::CancelledDueToErrors));
+}
+
+#[test]
+fn a_cancelled_load_goes_on_behind_its_records(rt: HostRuntime) {
+    let jobs = running(rt.alloc(), true).expect(&rt, "memory");
+    let mut jobs = jobs.expect(&rt, "started");
+    let one = many_logs(rt.alloc(), 1).expect(&rt, "memory");
+    assert!(rt; take(&mut jobs, 1, 2, 10, 3, &one));
+    assert!(rt; cancel(&mut jobs, 1));
+    assert!(rt; feed_status(&jobs, 1, 1) == Some(FeedStatus::CancelledByUser));
+    let again = request_of(rt.alloc(), "s3://b/k", true, &[]).expect(&rt, "memory");
+    assert!(rt; ask(&mut jobs, again) == Ok(Some(2)));
+    let older = jobs.goes_on_from(2).expect(&rt, "there");
+    assert!(rt; older.number == 1);
+    let plan = two_files(rt.alloc()).expect(&rt, "memory");
+    assert!(rt; start(&mut jobs, 2, &plan));
+    let job = jobs.job(2).expect(&rt, "there");
+    assert!(rt; job.run == 2 && job.previous == 1 && job.feeds.len() == 2);
+    let first = job.feeds.get(0).expect(&rt, "there");
+    assert!(rt; first.taken == 0 && first.digest.bytes[0] == 1 && first.logs.is_empty());
+    let second = job.feeds.get(1).expect(&rt, "there");
+    assert!(rt; second.status == FeedStatus::NotStarted && second.end_log == None);
+    assert!(rt; second.taken == 10 && second.digest.bytes[0] == 9 && second.logs.len() == 1);
+    assert!(rt; second.counts.duplicates == 3 && second.counts.datatype == 1);
+}
+
+#[test]
+fn sixty_five_kept_loads_are_too_many_to_depend_on(rt: HostRuntime) {
+    let mut jobs = Jobs::new(rt.alloc());
+    let mut ids: Vec<u128> = Vec::new(rt.alloc());
+    for i in 0..65 {
+        assert!(rt; ask_with(rt.alloc(), &mut jobs, &[]) == Ok(Some(i + 1)));
+        assert!(rt; complete(&mut jobs, i + 1));
+        ids.push(i as u128 + 1).expect(&rt, "memory");
+    }
+    assert!(rt;
+        ask_with(rt.alloc(), &mut jobs, ids.as_slice()) == Err(CheckRefusal::TooManyDependencies)
+    );
+    assert!(rt; ids.pop() == Some(65));
+    assert!(rt; ask_with(rt.alloc(), &mut jobs, ids.as_slice()) == Ok(Some(66)));
+}
+
+#[test]
+fn kept_jobs_are_taken_over(rt: HostRuntime) {
+    let jobs = running(rt.alloc(), true).expect(&rt, "memory");
+    let mut jobs = jobs.expect(&rt, "started");
+    assert!(rt; ask_with(rt.alloc(), &mut jobs, &[1]) == Ok(Some(2)));
+    let copy = copy_jobs(rt.alloc(), jobs.kept()).expect(&rt, "memory");
+    let mut again = Jobs::from_kept(rt.alloc(), jobs.last(), copy);
+    assert!(rt; again.last() == 2 && again.kept().len() == 2 && again.front() == Some(1));
+    let front = again.front_job().expect(&rt, "there");
+    assert!(rt; front.number == 1 && front.feeds.len() == 2 && front.is_unended());
+    let second = again.job_by_id(2).expect(&rt, "there");
+    assert!(rt; second.number == 2 && second.status == JobStatus::InQueue);
+    assert!(rt; again.job_by_id(3).is_none() && again.job(3).is_none());
+    let none = List::new(rt.alloc());
+    assert!(rt; take(&mut again, 1, 1, 5, 0, &none));
+    assert!(rt; end_feed(&mut again, 1, 1, FeedEnd::ReadError));
+    assert!(rt; status_of(&again, 2) == Some(JobStatus::DependencyNotSatisfied));
+    assert!(rt; status_of(&jobs, 2) == Some(JobStatus::InQueue));
+}
+
+#[test]
+fn what_may_not_befall_a_job_is_said(rt: HostRuntime) {
+    let jobs = running(rt.alloc(), true).expect(&rt, "memory");
+    let mut jobs = jobs.expect(&rt, "started");
+    assert!(rt; !jobs.has_next_number(1) && jobs.has_next_number(2));
+    assert!(rt; jobs.has_next_number((7 << 48) + 2));
+    assert!(rt; !jobs.may_start(1) && !jobs.may_end(1) && jobs.may_cancel(1));
+    assert!(rt; !jobs.may_cancel(2) && !jobs.may_end(2) && !jobs.may_start(2));
+    assert!(rt; jobs.may_end_feed(1, 2) && !jobs.may_end_feed(1, 0) && !jobs.may_end_feed(1, 3));
+    assert!(rt; !jobs.may_end_feed(2, 1));
+    assert!(rt; jobs.may_take_rows(1, 1, 3, 1, 2) && !jobs.may_take_rows(1, 1, 3, 2, 2));
+    assert!(rt; !jobs.may_take_rows(1, 0, 3, 0, 0) && !jobs.may_take_rows(2, 1, 3, 0, 0));
+    assert!(rt; ask_with(rt.alloc(), &mut jobs, &[]) == Ok(Some(2)));
+    assert!(rt; !jobs.may_start(2) && jobs.may_end(2));
+    assert!(rt; cancel(&mut jobs, 1) && jobs.may_start(2));
 }

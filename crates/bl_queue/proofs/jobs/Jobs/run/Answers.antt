@@ -9,7 +9,7 @@ use Rattle.bl_queue.specs.Doomed.{IsSettled}
 use Rattle.bl_queue.specs.Pass.{AreOrdered}
 use Rattle.bl_queue.specs.Runs.{feeds_of, goes_on_from, run_after, running_job}
 use Rattle.bl_files.specs.declared.feed.Feed.{Feed}
-use Rattle.bl_files.specs.Carried.{AreCarried, AreFeeds}
+use Rattle.bl_files.specs.Carried.{AreCarried, AreFeeds, most_files}
 use Rattle.bl_queue.proofs.FatedJobs.{ordered}
 use Rattle.bl_queue.proofs.ChangedJobs.{changed_jobs, changed_steady, front_found, front_in, some_and}
 use Rattle.bl_queue.proofs.Starts.{IsOlder, all_counts, feeds_fit, older, run_before, run_change, some_weaker}
@@ -32,8 +32,8 @@ pub carried-requires-clause-room : goal.carried-requires-clause-room
 carried-requires-clause-room c =
     let kept : Kept = record { last = c.self.inside.last; jobs = c.self.inside.jobs } in
     let from : option_copied c.goes_on_from-older.result ≡ goes_on_from kept.jobs c.args.job = c.goes_on_from-older.ensures ∙ ap (λ l. goes_on_from l c.args.job) c.as_slice.ensures in
-    subst (λ (o : Option Job). (feeds : List Feed) × AreCarried (feeds_of o) c.args.found.now feeds × (length feeds ≤ 4096)) (sym from)
-    (subst (λ (k : Kept). (feeds : List Feed) × AreCarried (feeds_of (goes_on_from k.jobs c.args.job)) c.args.found.now feeds × (length feeds ≤ 4096)) (sym c.self.view_is) c.requires.room)
+    subst (λ (o : Option Job). (feeds : List Feed) × AreCarried (feeds_of o) c.args.found.now feeds × (length feeds ≤ most_files)) (sym from)
+    (subst (λ (k : Kept). (feeds : List Feed) × AreCarried (feeds_of (goes_on_from k.jobs c.args.job)) c.args.found.now feeds × (length feeds ≤ most_files)) (sym c.self.view_is) c.requires.room)
 
 pub with_running-requires-clause-ordered : goal.with_running-requires-clause-ordered
 with_running-requires-clause-ordered c =
@@ -42,7 +42,7 @@ with_running-requires-clause-ordered c =
     let found = ap (λ n. job_of n kept.jobs) (sym one.2.0) ∙ front_found kept.jobs one.0 c.self.invariant.rising one.1 in
     let from : option_copied c.goes_on_from-older.result ≡ goes_on_from kept.jobs c.args.job = c.goes_on_from-older.ensures ∙ ap (λ l. goes_on_from l c.args.job) c.as_slice.ensures in
     let few : c.run_after-run.result ≤ one.0.number = subst (λ n. n ≤ one.0.number) (sym (c.run_after-run.ensures ∙ ap run_after from)) (run_before c.args.moment kept c.self.invariant one.0 one.1 c.args.job one.2.0) in
-    let counts = all_counts (feeds_of (goes_on_from kept.jobs c.args.job)) c.args.found.now c.in_ok-feeds.feeds (feeds_fit c.args.job (goes_on_from kept.jobs c.args.job) (older kept c.self.invariant c.args.job)).1 (subst (λ (o : Option Job). AreCarried (feeds_of o) c.args.found.now c.in_ok-feeds.feeds) from c.in_ok-feeds.ensures.carried) in
+    let counts = all_counts (feeds_of (goes_on_from kept.jobs c.args.job)) c.args.found.now c.in_ok-feeds.feeds (feeds_fit c.args.job (goes_on_from kept.jobs c.args.job) (older kept c.self.invariant c.args.job)).1 c.requires.codes (subst (λ (o : Option Job). AreCarried (feeds_of o) c.args.found.now c.in_ok-feeds.feeds) from c.in_ok-feeds.ensures.carried) in
     let change = run_change c.args.moment kept c.self.invariant one.0 one.1 c.run_after-run.result c.number_of-previous.result c.in_ok-feeds.feeds few c.in_ok-feeds.ensures.feeds counts in
     subst (λ l. AreOrdered (with_job c.args.job (running_job c.args.moment c.run_after-run.result c.number_of-previous.result c.in_ok-feeds.feeds) l)) (sym c.replace-jobs.ensures.value)
     (ordered kept.last _ (changed_steady c.args.moment c.args.job (running_job c.args.moment c.run_after-run.result c.number_of-previous.result c.in_ok-feeds.feeds) kept c.self.invariant one.0 found (front_in kept.jobs one.0 one.1).1 change))
@@ -54,7 +54,7 @@ invariant_of-self c =
     let found = ap (λ n. job_of n kept.jobs) (sym one.2.0) ∙ front_found kept.jobs one.0 c.self.invariant.rising one.1 in
     let from : option_copied c.goes_on_from-older.result ≡ goes_on_from kept.jobs c.args.job = c.goes_on_from-older.ensures ∙ ap (λ l. goes_on_from l c.args.job) c.as_slice.ensures in
     let few : c.run_after-run.result ≤ one.0.number = subst (λ n. n ≤ one.0.number) (sym (c.run_after-run.ensures ∙ ap run_after from)) (run_before c.args.moment kept c.self.invariant one.0 one.1 c.args.job one.2.0) in
-    let counts = all_counts (feeds_of (goes_on_from kept.jobs c.args.job)) c.args.found.now c.in_ok-feeds.feeds (feeds_fit c.args.job (goes_on_from kept.jobs c.args.job) (older kept c.self.invariant c.args.job)).1 (subst (λ (o : Option Job). AreCarried (feeds_of o) c.args.found.now c.in_ok-feeds.feeds) from c.in_ok-feeds.ensures.carried) in
+    let counts = all_counts (feeds_of (goes_on_from kept.jobs c.args.job)) c.args.found.now c.in_ok-feeds.feeds (feeds_fit c.args.job (goes_on_from kept.jobs c.args.job) (older kept c.self.invariant c.args.job)).1 c.requires.codes (subst (λ (o : Option Job). AreCarried (feeds_of o) c.args.found.now c.in_ok-feeds.feeds) from c.in_ok-feeds.ensures.carried) in
     let change = run_change c.args.moment kept c.self.invariant one.0 one.1 c.run_after-run.result c.number_of-previous.result c.in_ok-feeds.feeds few c.in_ok-feeds.ensures.feeds counts in
     changed_jobs c.args.moment c.args.job (running_job c.args.moment c.run_after-run.result c.number_of-previous.result c.in_ok-feeds.feeds) kept c.self.invariant one.0 found (front_in kept.jobs one.0 one.1).1 change c.with_running.result
     (subst (λ l. IsSettled c.args.moment (with_job c.args.job (running_job c.args.moment c.run_after-run.result c.number_of-previous.result c.in_ok-feeds.feeds) l) c.with_running.result) c.replace-jobs.ensures.value c.with_running.ensures)
