@@ -29,13 +29,13 @@ mod value_type;
 pub use array::{is_one_item, items, read_item, read_text_values, read_values};
 pub use cell::{CellRefusal, is_empty_cell, read_cell, without_spaces};
 pub use change::{Change, copy_changes};
-pub use column::{Column, ColumnUse, Columns, Side};
+pub use column::{Column, ColumnUse, Columns, KEY_LIMIT, Side};
 pub use json_text::{json_of, json_value};
 pub use laws::date_texts_are_read_back;
 pub use log_code::LogCode;
 pub use once::{Copied, EachOnce};
-pub use row::{DigestRow, Property, Row};
-pub use value::{Value, compare};
+pub use row::{DigestRow, ID_LIMIT, Property, Row};
+pub use value::{FIRST_DATE, LAST_DATE, TEXT_LIMIT, Value, compare};
 pub use value_type::ValueType;
 
 #[cfg(test)]
