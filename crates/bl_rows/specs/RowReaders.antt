@@ -1,6 +1,7 @@
 -- Where a reader of rows stands.
 use Rattle.std.specs.Prelude.{◌≡◌, ◌≤◌, ◌+◌, ℕ, List, [], ◌∷◌, drop, length, Option, Some, None}
 use Rattle.bl_rows.specs.Contents.{Fields, IsShort, has_no_record, header_of}
+use Rattle.bl_rows.specs.File.{file_limit}
 use Rattle.bl_rows.specs.Digests.{digest_after}
 use Rattle.bl_rows.specs.RecordReaders.{HasLeft}
 use Rattle.bl_rows.specs.declared.row_reader.RowReader.{RowReader}
@@ -15,7 +16,7 @@ pub record Stands (reader : RowReader) (all : List Fields) (taken : ℕ) (left :
   pub digest_is : reader.digest.bytes ≡ digest_after all taken
   pub left_is : left ≡ drop (taken + 1) all
   pub has_left : HasLeft reader.records left
-  pub few : length all ≤ 268435457
+  pub few : length all ≤ file_limit + 1
 
 -- The answer of a reader that stood so: the first record that is left, or none where none is.
 abbrev pub GivesRow : List Fields → ℕ → List Fields → RowReader → Option Fields → Type 0

@@ -28,6 +28,10 @@ pub use laws::a_record_has_one_row;
 pub use row_reader::{RowReader, start};
 
 #[cfg(test)]
+mod csv_tests;
+#[cfg(test)]
 mod file_tests;
+#[cfg(test)]
+mod row_lines;
 #[cfg(test)]
 mod row_tests;

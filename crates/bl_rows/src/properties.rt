@@ -1,10 +1,10 @@
 // The property cells of a record.
-ghost use Rattle.std.specs.Prelude.{◌≡◌, ◌≤◌, ◌<◌, ◌^◌, ◌++◌, ◌+◌, nat_le, None, length, sum_by, IfOk, IfErr, OnOk};
+ghost use Rattle.std.specs.Prelude.{◌≡◌, ◌≤◌, ◌<◌, ◌^◌, ◌++◌, ◌+◌, nat_le, None, length, IfOk, IfErr, OnOk};
 ghost use Rattle.std.specs.List.{All};
 ghost use Rattle.std.specs.Str.{IsUtf8};
 ghost use Rattle.bl_value.specs.Valid.{IsValue};
-ghost use Rattle.bl_rows.specs.FirstFaults.{Tells, TellsOf, first_told, refused_code};
-ghost use Rattle.bl_rows.specs.Rows.{properties_from, property_in, values_in};
+ghost use Rattle.bl_rows.specs.FirstFaults.{Tells, TellsOf, first_told, refused_code, values_in_all};
+ghost use Rattle.bl_rows.specs.Rows.{properties_from, property_in, value_limit, values_in};
 ghost use Rattle.bl_value.specs.ValidRows.{HasValues};
 
 use crate::refused::Refused;
@@ -99,9 +99,9 @@ pub fn read_properties(
     Ok(properties)
 }
 
-/// The labels and the values are at most 4,096 together.
+/// The labels and the values are not too many together.
 pub fn are_few(labels: usize, properties: &[Property]) -> bool
-    ensures { result ≡ nat_le (labels + sum_by (λ property. length property.values) properties.now) 4096 }
+    ensures { result ≡ nat_le (labels + values_in_all properties.now) value_limit }
 {
     let mut room: usize = VALUE_LIMIT;
     if labels > room {

@@ -11,11 +11,8 @@ ghost use Rattle.bl_rows.specs.SystemCells.{gather, gathered, with_system};
 
 use crate::labels::labels_in;
 use bl_outside::{NoMemory, Text};
-use bl_value::{ColumnUse, Side, without_spaces};
+use bl_value::{ColumnUse, ID_LIMIT, Side, without_spaces};
 use std::alloc::Global;
-
-/// The most bytes of an id or a label.
-const ID_LIMIT: usize = 1_024;
 
 /// The cells of a record's system columns, without the spaces at their ends. A cell is empty where
 /// there is no such column.

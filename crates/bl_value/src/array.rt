@@ -1,6 +1,22 @@
 // Cells that are arrays: items, divided by semicolons.
 ghost use Rattle.std.specs.Prelude.{
-    ◌≡◌, ◌+◌, ◌≤◌, ◌<◌, ◌^◌, ◌⊎◌, ◌∷◌, [], true, false, length, Ok, Err, IfOk, IfErr, IfSome, OnOk
+  ◌≡◌,
+  ◌+◌,
+  ◌≤◌,
+  ◌<◌,
+  ◌^◌,
+  ◌⊎◌,
+  ◌∷◌,
+  [],
+  true,
+  false,
+  length,
+  Ok,
+  Err,
+  IfOk,
+  IfErr,
+  IfSome,
+  OnOk,
 };
 ghost use Rattle.std.specs.Bool.{OnTrue};
 ghost use Rattle.std.specs.List.{All, IsDistinct};

@@ -1,10 +1,25 @@
 // Cells of a file.
-ghost use Rattle.std.specs.Prelude.{◌≡◌, ◌⊎◌, ◌<◌, ◌^◌, false, length, reverse, Ok, Err, IfOk, IfErr};
+ghost use Rattle.std.specs.Prelude.{
+  ◌≡◌,
+  ◌⊎◌,
+  ◌<◌,
+  ◌^◌,
+  false,
+  length,
+  reverse,
+  Ok,
+  Err,
+  IfOk,
+  IfErr,
+};
 ghost use Rattle.std.specs.Str.{IsUtf8};
 ghost use Rattle.bl_value.specs.Cells as cells;
 ghost use Rattle.bl_value.specs.Cells.{is_true, text_cell, without_spaces, without_spaces_in_front};
 ghost use Rattle.bl_value.specs.Valid.{IsValue};
-ghost use Rattle.bl_value.specs.declared.cell.CellRefusal.TheVariants.{NotUtf8, NoMemory as out_of_memory};
+ghost use Rattle.bl_value.specs.declared.cell.CellRefusal.TheVariants.{
+  NotUtf8,
+  NoMemory as out_of_memory,
+};
 
 use crate::date::read_date;
 use crate::integer::{read_byte, read_int, read_long, read_short};
