@@ -97,8 +97,9 @@ pub fn snapshot_behind<D: Disk>(disk: &mut D, numbers: Numbers) -> Result<Snapsh
     ensures snapshot { (content : List ℕ) → D.seen disk.old ≡ Some content
         → NumbersAre (Some content) (Ok (Some numbers))
         → MatchResult result
-            (λ snapshot. (slot_in content ≡ Ok (Some snapshot)) × (snapshot.entries ≡ numbers.entries))
-            IsOfDevice }
+        (λ snapshot. (slot_in content ≡ Ok (Some snapshot))
+        × (snapshot.entries ≡ numbers.entries))
+        IsOfDevice }
     ensures entries { IfOk result (λ snapshot. snapshot.entries ≡ numbers.entries) }
     ensures seen { D.seen disk.new ≡ D.seen disk.old }
     ensures honest { D.honest disk.new ↔ D.honest disk.old }

@@ -31,7 +31,12 @@ impl<D: Disk> Model for Slots<D> {
 
     ghost coded = { slots_code D.code };
 
-    ghost view = { λ s. record { left = s.left; right = s.right; left_open = s.left_open; right_open = s.right_open } };
+    ghost view = { λ s. record {
+      left = s.left;
+      right = s.right;
+      left_open = s.left_open;
+      right_open = s.right_open;
+    } };
 }
 
 // What a look at both slots found.
@@ -69,7 +74,8 @@ fn sync_both<D: Disk>(left: &mut D, right: &mut D) -> Result<(), Outside>
     ensures left_untouched { IsUntouched ⟦<D as Disk>⟧ left.old left.new }
     ensures right_untouched { IsUntouched ⟦<D as Disk>⟧ right.old right.new }
     ensures store { IsErrOf result Outside.Failed
-        → Rose (D.faults left.old) (D.faults left.new) ⊎ Rose (D.faults right.old) (D.faults right.new) }
+        → Rose (D.faults left.old) (D.faults left.new)
+        ⊎ Rose (D.faults right.old) (D.faults right.new) }
     ensures left_later { D.faults left.old ≤ D.faults left.new }
     ensures right_later { D.faults right.old ≤ D.faults right.new }
 {
@@ -91,7 +97,8 @@ fn numbers_of_both<D: Disk>(
     ensures left_untouched { IsUntouched ⟦<D as Disk>⟧ left.old left.new }
     ensures right_untouched { IsUntouched ⟦<D as Disk>⟧ right.old right.new }
     ensures store { IsErrOf result JournalFault.StoreFault
-        → Rose (D.faults left.old) (D.faults left.new) ⊎ Rose (D.faults right.old) (D.faults right.new) }
+        → Rose (D.faults left.old) (D.faults left.new)
+        ⊎ Rose (D.faults right.old) (D.faults right.new) }
     ensures left_later { D.faults left.old ≤ D.faults left.new }
     ensures right_later { D.faults right.old ≤ D.faults right.new }
 {
@@ -126,14 +133,17 @@ fn newest_of<D: Disk>(left: &mut D, right: &mut D) -> Result<Found, JournalFault
     ensures newest { IfOk result (λ found.
         NewestIs (D.seen left.old) (D.seen right.old) found.newest) }
     ensures fault { IfErr result (FaultIs (D.seen left.old) (D.seen right.old)) }
-    ensures left_known { IfOk result (λ found. IsKnownAs ⟦<D as Disk>⟧ left.new found.left_open) }
-    ensures right_known { IfOk result (λ found. IsKnownAs ⟦<D as Disk>⟧ right.new found.right_open) }
+    ensures left_known { IfOk result (λ found.
+        IsKnownAs ⟦<D as Disk>⟧ left.new found.left_open) }
+    ensures right_known { IfOk result (λ found.
+        IsKnownAs ⟦<D as Disk>⟧ right.new found.right_open) }
     ensures left_settled { OnOk result (D.honest left.old → IsSettled ⟦<D as Disk>⟧ left.new) }
     ensures right_settled { OnOk result (D.honest right.old → IsSettled ⟦<D as Disk>⟧ right.new) }
     ensures left_untouched { IsUntouched ⟦<D as Disk>⟧ left.old left.new }
     ensures right_untouched { IsUntouched ⟦<D as Disk>⟧ right.old right.new }
     ensures store { IsErrOf result JournalFault.StoreFault
-        → Rose (D.faults left.old) (D.faults left.new) ⊎ Rose (D.faults right.old) (D.faults right.new) }
+        → Rose (D.faults left.old) (D.faults left.new)
+        ⊎ Rose (D.faults right.old) (D.faults right.new) }
     ensures left_later { D.faults left.old ≤ D.faults left.new }
     ensures right_later { D.faults right.old ≤ D.faults right.new }
 {
@@ -226,7 +236,8 @@ impl<D: Disk> Slots<D> {
         // At each moment a crash leaves the slot at work closed, or with what it held.
         ensures any_moment { (found : Option Snapshot)
             → Holds ⟦<D as Disk>⟧ (at_work self.old self.old) found
-            → Since ⟦<D as Disk>⟧ (at_work self.old self.old) (at_work self.old self.new) (ClosedOr found) }
+            → Since ⟦<D as Disk>⟧ (at_work self.old self.old) (at_work self.old self.new)
+            (ClosedOr found) }
         ensures untouched { spared self.old self.new ≡ spared self.old self.old }
         ensures side { is_left self.new ≡ is_left self.old }
         ensures refusals { IfErr result IsOfDevice }
@@ -234,7 +245,8 @@ impl<D: Disk> Slots<D> {
             ↔ IsSound ⟦<D as Disk>⟧ (at_work self.old self.new) }
         ensures store { IsErrOf result JournalFault.StoreFault
             → Rose (D.faults (at_work self.old self.old)) (D.faults (at_work self.old self.new)) }
-        ensures later { D.faults (at_work self.old self.old) ≤ D.faults (at_work self.old self.new) }
+        ensures later { D.faults (at_work self.old self.old)
+            ≤ D.faults (at_work self.old self.new) }
     {
         if works_left(self.left_open, self.right_open) {
             close_file(&mut self.left)?;
@@ -258,14 +270,15 @@ impl<D: Disk> Slots<D> {
         // At each moment a crash leaves the slot closed, or with this snapshot whole.
         ensures any_moment { IsSound ⟦<D as Disk>⟧ (at_work self.old self.old)
             → Since ⟦<D as Disk>⟧ (at_work self.old self.old) (at_work self.old self.new)
-                (ClosedOr (Some snapshot.now)) }
+            (ClosedOr (Some snapshot.now)) }
         ensures untouched { spared self.old self.new ≡ spared self.old self.old }
         ensures refusals { IfErr result IsOfDevice }
         ensures sound { IsSound ⟦<D as Disk>⟧ (at_work self.old self.old)
             ↔ IsSound ⟦<D as Disk>⟧ (at_work self.old self.new) }
         ensures store { IsErrOf result JournalFault.StoreFault
             → Rose (D.faults (at_work self.old self.old)) (D.faults (at_work self.old self.new)) }
-        ensures later { D.faults (at_work self.old self.old) ≤ D.faults (at_work self.old self.new) }
+        ensures later { D.faults (at_work self.old self.old)
+            ≤ D.faults (at_work self.old self.new) }
     {
         let Ok(bytes) = bytes_behind_gate(self.alloc, snapshot) else {
             return Err(JournalFault::NoMemory);

@@ -19,7 +19,8 @@ pub struct Snapshot {
 pub fn bytes_behind_gate(alloc: Global, snapshot: &Snapshot) -> Result<Vec<u8>, NoMemory>
     requires { length snapshot.now.body + 16 < 2 ^ 32 }
     ensures bytes { IfOk result (λ bytes. bytes.items ≡ behind_gate snapshot.now) }
-    ensures numbers { OnOk result ((snapshot.now.entries < 2 ^ 64) × (snapshot.now.place < 2 ^ 64)) }
+    ensures numbers { OnOk result (
+        (snapshot.now.entries < 2 ^ 64) × (snapshot.now.place < 2 ^ 64)) }
 {
     let body = snapshot.body.as_slice();
     let length = 16 + body.len() as u32;

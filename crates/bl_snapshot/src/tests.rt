@@ -7,7 +7,9 @@ use std::alloc::Global;
 
 // Slots of 5, 3 and 5 entries with the bodies `old`, `low` and `alt`.
 const OLD: &[u8] = b"NEPTLOAD-SNAP-1\x01\0\0\0\x13\0\0\0\0\0\0\0\x05\0\0\0\0\0\0\0\x22old";
+
 const LOW: &[u8] = b"NEPTLOAD-SNAP-1\x01\0\0\0\x13\0\0\0\0\0\0\0\x03\0\0\0\0\0\0\0\x11low";
+
 const ALT: &[u8] = b"NEPTLOAD-SNAP-1\x01\0\0\0\x13\0\0\0\0\0\0\0\x05\0\0\0\0\0\0\0\x22alt";
 
 // A closed slot that held something.
@@ -66,9 +68,18 @@ fn a_file_is_closed_or_open_or_no_slot(rt: HostRuntime) {
         (b"NEPTLOAD-JRNL-1\x01\0\0\0\x03old\0".as_slice(), 9),
         (b"NEPTLOAD-SNAP-2\0\0".as_slice(), 14),
         (b"NEPTLOAD-SNAP-1\x01\0".as_slice(), 15),
-        (b"NEPTLOAD-SNAP-1\x01\0\0\0\x0f0123456789abcde".as_slice(), 15),
-        (b"NEPTLOAD-SNAP-1\x01\0\0\0\x140123456789abcdefold".as_slice(), 15),
-        (b"NEPTLOAD-SNAP-1\x01\xff\xff\xff\xff0123456789abcdef".as_slice(), 15),
+        (
+            b"NEPTLOAD-SNAP-1\x01\0\0\0\x0f0123456789abcde".as_slice(),
+            15,
+        ),
+        (
+            b"NEPTLOAD-SNAP-1\x01\0\0\0\x140123456789abcdefold".as_slice(),
+            15,
+        ),
+        (
+            b"NEPTLOAD-SNAP-1\x01\xff\xff\xff\xff0123456789abcdef".as_slice(),
+            15,
+        ),
     ];
     for (file, place) in foreign {
         assert!(rt; newest(alloc, file, OLD, b"") == Err(JournalFault::NotAJournal(place)));
@@ -150,7 +161,8 @@ fn the_slot_that_is_not_the_newest_is_filled_byte_by_byte(rt: HostRuntime) {
     assert!(rt; files_are(alloc, (OLD, b""), OLD, new));
     assert!(rt; files_are(alloc, (OLD, LOW), OLD, over));
     assert!(rt; files_are(alloc, (LOW, OLD), over, OLD));
-    assert!(rt; files_are(alloc, (OLD, ALT), OLD, b"NEPTLOAD-SNAP-1\x01\0\0\0\x11\0\0\0\0\0\0\0\x09\0\0\0\0\0\0\0Mnlt"));
+    let equal = b"NEPTLOAD-SNAP-1\x01\0\0\0\x11\0\0\0\0\0\0\0\x09\0\0\0\0\0\0\0Mnlt".as_slice();
+    assert!(rt; files_are(alloc, (OLD, ALT), OLD, equal));
 }
 
 // The failing of one disk: this call, once or for good.
@@ -182,7 +194,7 @@ fn after_stop(
     }
 }
 
-// What may be found after a stop: with `Ok` the new snapshot, and else what was there or the new one.
+// What may be found after a stop: with `Ok` the new snapshot, and else that or what was there.
 fn is_right(found: Result<(bool, Option<u64>), NoMemory>, before: Option<u64>) -> bool {
     match found {
         Ok((true, entries)) => entries == Some(9),
@@ -195,11 +207,22 @@ fn is_right(found: Result<(bool, Option<u64>), NoMemory>, before: Option<u64>) -
 fn survives(alloc: Global, files: (&[u8], &[u8], Option<u64>), call: u64, for_good: bool) -> bool {
     let mut all = true;
     for fill in [Fill::Old, Fill::New, Fill::Ones] {
-        let (Ok(first), Ok(second)) = (plan(alloc, call, for_good), plan(alloc, call, for_good)) else {
+        let plans = (plan(alloc, call, for_good), plan(alloc, call, for_good));
+        let (Ok(first), Ok(second)) = plans else {
             return false;
         };
-        let left = after_stop(alloc, (files.0, first), (files.1, Faults::none(alloc)), fill);
-        let right = after_stop(alloc, (files.0, Faults::none(alloc)), (files.1, second), fill);
+        let left = after_stop(
+            alloc,
+            (files.0, first),
+            (files.1, Faults::none(alloc)),
+            fill,
+        );
+        let right = after_stop(
+            alloc,
+            (files.0, Faults::none(alloc)),
+            (files.1, second),
+            fill,
+        );
         all = all && is_right(left, files.2) && is_right(right, files.2);
     }
     all

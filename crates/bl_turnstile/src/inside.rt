@@ -9,7 +9,8 @@ use atomic_table::Seat;
 #[derive(Drop)]
 pub(crate) struct Entered<T> {
     pub(crate) seat: Seat<Option<T>, Standing>,
-    ghost inside: { seat.me ≡ (having seat.me.0.ticket seat.me.0.seen seat.me.0.mine, (0, None) ∷ []) },
+    ghost inside: { seat.me
+        ≡ (having seat.me.0.ticket seat.me.0.seen seat.me.0.mine, (0, None) ∷ []) },
 }
 
 /// The value and the pass of the one caller that is inside. Only `leave` ends it.

@@ -1,6 +1,6 @@
 // The turnstile.
 ghost use Rattle.std.specs.Prelude.{◌≡◌, ◌+◌, ◌∷◌, ◌++◌, [], ℕ, List, IfOk, IfErr, Some};
-ghost use Rattle.bl_turnstile.specs.Entries.{IsPrefix, added};
+ghost use Rattle.bl_turnstile.specs.Entries.{IsPrefix, AreOwn, added};
 ghost use Rattle.bl_turnstile.specs.Views.{idle, waiting, inside as served};
 
 use crate::inside::{Entered, Inside};
@@ -76,7 +76,10 @@ impl<T: Told> Turnstile<T> {
         ensures place { IsPassOf self.now result }
         ensures stands { T.stands (value_inside inside) 1 (seen result) }
         ensures later { IsPrefix (seen_inside inside) (seen result) }
-        ensures mine { mine result ≡ mine_inside inside ++ added (seen_inside inside) (seen result) }
+        ensures mine { mine result
+            ≡ mine_inside inside ++ added (seen_inside inside) (seen result) }
+        // Its own numbers differ, and each names an entry that it has seen.
+        ensures own { AreOwn (mine result) (seen result) }
     {
         let Inside {
             value,
@@ -115,6 +118,7 @@ impl<T: Told> Turnstile<T> {
         ensures first { IsPrefix (seen pass) (seen result) }
         ensures second { IsPrefix (seen other) (seen result) }
         ensures mine { mine result ≡ mine pass ++ mine other }
+        ensures own { AreOwn (mine result) (seen result) }
     {
         let mut seat: Seat<Option<T>, Standing> = pass.into_seat();
         let second: Seat<Option<T>, Standing> = other.into_seat();
@@ -126,7 +130,8 @@ impl<T: Told> Turnstile<T> {
     /// Waits for its turn, and keeps the value.
     pub fn close<R: Wait>(self, rt: &R, pass: Pass) -> T
         requires { IsPassOf self pass }
-        ensures { (entries : List (List ℕ)) × T.stands result 1 entries × IsPrefix (seen pass) entries }
+        ensures { (entries : List (List ℕ))
+            × T.stands result 1 entries × IsPrefix (seen pass) entries }
     {
         let seat = self.wait(rt, pass);
         let Turnstile { table } = self;
