@@ -62,8 +62,8 @@ module _ (kept : Kept) (are : AreJobs kept) where
   settled_itself moment = (
     kept.jobs,
     all_zip (IsFate moment kept.jobs) kept.jobs kept.jobs refl (λ k d below.
-    let job : Job = get_or kept.jobs k d in
-    inr ((λ doomed. no_walk doomed.1 job (k, below, get_or_default kept.jobs k job d below) doomed.0 doomed.2), refl)),
+        let job : Job = get_or kept.jobs k d in
+        inr ((λ doomed. no_walk doomed.1 job (k, below, get_or_default kept.jobs k job d below) doomed.0 doomed.2), refl)),
     sym (front_stays kept.jobs are.front),
   )
 

@@ -1,8 +1,16 @@
 // The files of a job as they end.
 ghost use Rattle.std.specs.Prelude.{◌≡◌, ◌<◌, length};
 ghost use Rattle.bl_queue.specs.Runs.{
-    bare_log, end_log, end_status, ended_feed, feeds_after, open_ended, stopped, stops, with_feed,
-    with_open_ended
+  bare_log,
+  end_log,
+  end_status,
+  ended_feed,
+  feeds_after,
+  open_ended,
+  stopped,
+  stops,
+  with_feed,
+  with_open_ended,
 };
 
 use bl_files::{Feed, FeedEnd, FeedStatus, Log};
@@ -101,12 +109,7 @@ fn stop(feeds: &mut [Feed], fail_on_error: bool, end: FeedEnd)
 }
 
 /// The file at this place ends, and where that stops the job, all others do.
-pub fn with_end(
-    feeds: List<Feed>,
-    fail_on_error: bool,
-    place: usize,
-    end: FeedEnd,
-) -> List<Feed>
+pub fn with_end(feeds: List<Feed>, fail_on_error: bool, place: usize, end: FeedEnd) -> List<Feed>
     requires { place < length feeds }
     ensures { result ≡ feeds_after fail_on_error place end feeds }
 {

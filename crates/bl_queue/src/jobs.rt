@@ -1,12 +1,32 @@
 // The list of jobs.
 ghost use Rattle.std.specs.Prelude.{
-    ◌≡◌, ◌+◌, ◌-◌, ◌≤◌, ◌↔◌, true, false, [], length, IsSomeAnd, IsTrue, IfOk, IsOk, OnOk, OnErr,
-    None
+  ◌≡◌,
+  ◌+◌,
+  ◌-◌,
+  ◌≤◌,
+  ◌↔◌,
+  true,
+  false,
+  [],
+  length,
+  IsSomeAnd,
+  IsTrue,
+  IfOk,
+  IsOk,
+  OnOk,
+  OnErr,
+  None,
 };
 ghost use Rattle.std.specs.Option.{option_copied};
 ghost use Rattle.std.specs.Result.{result_err};
 ghost use Rattle.bl_queue.specs.Jobs.{
-    AreJobs, front_job, has_open, is_unended, job_of, job_with_id, number_in
+  AreJobs,
+  front_job,
+  has_open,
+  is_unended,
+  job_of,
+  job_with_id,
+  number_in,
 };
 ghost use Rattle.bl_queue.specs.Checks.{refusal};
 ghost use Rattle.bl_queue.specs.Previous.{front, previous};
@@ -15,16 +35,26 @@ ghost use Rattle.bl_files.specs.Carried.{DifferentNames, found_names};
 ghost use Rattle.bl_files.specs.Plans.{HasFileCodes, HasNames, HaveFileCodes};
 ghost use Rattle.bl_queue.specs.declared.job_status.JobStatus.TheVariants.{NotStarted};
 ghost use Rattle.bl_queue.specs.Runs.{
-    FitsIn, HasRoom, MayCancel, MayEnd, MayEndFeed, MayStart, IsOpenAt, IsRefused, IsRunning,
-    IsStarted, cancelled_job, feeds_of, goes_on_from, job_after_feed
+  FitsIn,
+  HasRoom,
+  MayCancel,
+  MayEnd,
+  MayEndFeed,
+  MayStart,
+  IsOpenAt,
+  IsRefused,
+  IsRunning,
+  IsStarted,
+  cancelled_job,
+  feeds_of,
+  goes_on_from,
+  job_after_feed,
 };
 ghost use Rattle.bl_queue.specs.Rows.{MayFeed, MayTakeRows, fed_job};
 ghost use Rattle.bl_queue.specs.Changes.{IsChanged, IsSubmitted, ended_job, new_job, with_job};
 
 use crate::checking::{busy, full, too_many, unknown, used_up};
-use crate::conditions::{
-    may_cancel, may_end, may_end_feed, may_start, may_take_rows,
-};
+use crate::conditions::{may_cancel, may_end, may_end_feed, may_start, may_take_rows};
 use crate::running::{with_cancelled, with_ended, with_feed_ended};
 use crate::searching::{front_of, job_of, job_with_id, previous_of};
 use crate::settling::with_settled;
@@ -297,8 +327,9 @@ impl Jobs {
             (it.number ≡ job) × MayFeed (feed - 1) rows it) }
         requires few { duplicates + length logs.now ≤ rows }
         ensures ok { OnOk result (self.new ≡ record self.old {
-            jobs = with_job job (fed_job moment (feed - 1) rows digest duplicates logs.now)
-                self.old.jobs }) }
+          jobs = with_job job (fed_job moment (feed - 1) rows digest duplicates logs.now)
+              self.old.jobs;
+        }) }
         ensures err { OnErr result (self.new ≡ self.old) }
     {
         let place = feed as usize - 1;

@@ -96,9 +96,7 @@ pub fn with_cancelled(alloc: Global, jobs: List<Job>, moment: u64, number: u32) 
 fn is_whole(feeds: &[Feed]) -> bool
     ensures { result ≡ list_all (λ feed. is_completed feed.status) feeds.now }
 {
-    feeds
-        .iter()
-        .all(|feed| feed.status.is_completed())
+    feeds.iter().all(|feed| feed.status.is_completed())
 }
 
 fn whole_status(feeds: &[Feed]) -> JobStatus

@@ -1,6 +1,16 @@
 // A job is started.
 ghost use Rattle.std.specs.Prelude.{
-    ◌≡◌, ◌+◌, ◌<◌, ◌≤◌, ◌^◌, ◌↔◌, IsTrue, AllPairs, IfOk, IfSome, IsSomeAnd
+  ◌≡◌,
+  ◌+◌,
+  ◌<◌,
+  ◌≤◌,
+  ◌^◌,
+  ◌↔◌,
+  IsTrue,
+  AllPairs,
+  IfOk,
+  IfSome,
+  IsSomeAnd,
 };
 ghost use Rattle.std.specs.List.{list_any};
 ghost use Rattle.std.specs.Option.{option_copied};
@@ -10,7 +20,15 @@ ghost use Rattle.bl_queue.specs.Doomed.{IsSettled};
 ghost use Rattle.bl_queue.specs.Pass.{AreOrdered};
 ghost use Rattle.bl_files.specs.Statuses.{is_failed};
 ghost use Rattle.bl_queue.specs.Runs.{
-    FitsIn, begun, by_mode, feeds_of, goes_on_from, number_of, refused_job, run_after, running_job
+  FitsIn,
+  begun,
+  by_mode,
+  feeds_of,
+  goes_on_from,
+  number_of,
+  refused_job,
+  run_after,
+  running_job,
 };
 
 use crate::ending_feeds::{bare_log, with_open_ended};
@@ -99,11 +117,7 @@ pub fn carried(
     }
 }
 
-fn carry_fits(
-    alloc: Global,
-    previous: &List<Feed>,
-    found: &List<Found>,
-) -> Result<bool, NoMemory>
+fn carry_fits(alloc: Global, previous: &List<Feed>, found: &List<Found>) -> Result<bool, NoMemory>
     requires previous { AreFeeds previous.now }
     requires found { DifferentNames (found_names found.now) }
     ensures { IfOk result (λ room. IsTrue room ↔ FitsIn previous.now found.now) }
@@ -114,11 +128,7 @@ fn carry_fits(
 }
 
 /// Whether the files of a load that goes on from another are few enough.
-pub fn fits_in(
-    alloc: Global,
-    older: Option<&Job>,
-    found: &List<Found>,
-) -> Result<bool, NoMemory>
+pub fn fits_in(alloc: Global, older: Option<&Job>, found: &List<Found>) -> Result<bool, NoMemory>
     requires previous { AreFeeds (feeds_of (option_copied older)) }
     requires found { DifferentNames (found_names found.now) }
     ensures { IfOk result (λ room.
@@ -133,9 +143,7 @@ pub fn fits_in(
 fn any_failed(feeds: &[Feed]) -> bool
     ensures { result ≡ list_any (λ feed. is_failed feed.status) feeds.now }
 {
-    feeds
-        .iter()
-        .any(|feed| feed.status.is_failed())
+    feeds.iter().any(|feed| feed.status.is_failed())
 }
 
 // A file that has failed at once stops a load that is to stop at errors.

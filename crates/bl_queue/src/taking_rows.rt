@@ -1,14 +1,33 @@
 // Rows of a file are taken.
 ghost use Rattle.std.specs.Prelude.{
-    ◌≡◌, ◌-◌, ◌<◌, ◌≤◌, ◌^◌, count_by, drop, length, slice_get, All, AllPairs, IsSomeAnd, OnErr,
-    OnOk
+  ◌≡◌,
+  ◌-◌,
+  ◌<◌,
+  ◌≤◌,
+  ◌^◌,
+  count_by,
+  drop,
+  length,
+  slice_get,
+  All,
+  AllPairs,
+  IsSomeAnd,
+  OnErr,
+  OnOk,
 };
 ghost use Rattle.bl_files.specs.Codes.{class_of};
 ghost use Rattle.bl_queue.specs.Limits.{record_limit};
 ghost use Rattle.bl_queue.specs.Changes.{with_job};
 ghost use Rattle.bl_queue.specs.Runs.{with_feed};
 ghost use Rattle.bl_queue.specs.Rows.{
-    MayTake, counts_after, fed_feed, fed_job, is_datatype, is_insert, is_parsing, last_logs
+  MayTake,
+  counts_after,
+  fed_feed,
+  fed_job,
+  is_datatype,
+  is_insert,
+  is_parsing,
+  last_logs,
 };
 
 use crate::Job;
@@ -127,7 +146,7 @@ fn feed_at(feeds: &mut [Feed], place: usize, taken: Taken, logs: &[Log]) -> Resu
         MayTake taken.rows taken.duplicates logs.now feed) }
     ensures ok { OnOk result (feeds.new
         ≡ last_logs (with_feed place
-            (fed_feed taken.rows taken.digest taken.duplicates logs.now) feeds.old)) }
+        (fed_feed taken.rows taken.digest taken.duplicates logs.now) feeds.old)) }
     ensures err { OnErr result (feeds.new ≡ feeds.old) }
 {
     feed_one(&mut feeds[place], taken, logs)?;
@@ -169,10 +188,10 @@ fn feed_one_job(
     requires rising { AllPairs (λ a b. a.number < b.number) jobs.old }
     requires may { All (λ job. job.number ≡ number
         → IsSomeAnd (slice_get job.feeds place) (λ feed.
-            MayTake taken.rows taken.duplicates logs.now feed)) jobs.old }
+        MayTake taken.rows taken.duplicates logs.now feed)) jobs.old }
     ensures ok { OnOk result (jobs.new
         ≡ with_job number
-            (fed_job moment place taken.rows taken.digest taken.duplicates logs.now) jobs.old) }
+        (fed_job moment place taken.rows taken.digest taken.duplicates logs.now) jobs.old) }
     ensures err { OnErr result (jobs.new ≡ jobs.old) }
 {
     match place_of(jobs, number) {
@@ -195,7 +214,7 @@ pub fn with_rows(
     requires rising { AllPairs (λ a b. a.number < b.number) jobs }
     requires may { All (λ job. job.number ≡ number
         → IsSomeAnd (slice_get job.feeds place) (λ feed.
-            MayTake taken.rows taken.duplicates logs.now feed)) jobs }
+        MayTake taken.rows taken.duplicates logs.now feed)) jobs }
     ensures ok { OnOk result.1 (result.0 ≡ with_job number
         (fed_job moment place taken.rows taken.digest taken.duplicates logs.now) jobs) }
     ensures err { OnErr result.1 (result.0 ≡ jobs) }

@@ -1,8 +1,6 @@
 // Loads taken on, refused and ended.
 use crate::{CheckRefusal, JobStatus, Jobs, MOST_KEPT, copy_jobs};
-use bl_files::{
-    FeedEnd, FeedKind, FeedStatus, Found, LoadRequest, Log, Mode, PlanResult, totals,
-};
+use bl_files::{FeedEnd, FeedKind, FeedStatus, Found, LoadRequest, Log, Mode, PlanResult, totals};
 use bl_outside::{Digest, List, NoMemory, Text};
 use bl_value::LogCode;
 use std::alloc::Global;
@@ -229,9 +227,7 @@ fn a_load_goes_on_from_the_newest_of_its_source(rt: HostRuntime) {
         assert!(rt; ask(&mut jobs, request).is_ok());
     }
     let none = no_files(rt.alloc());
-    assert!(rt;
-        start(&mut jobs, 1, &none) && status_of(&jobs, 1) == Some(JobStatus::Completed)
-    );
+    assert!(rt; start(&mut jobs, 1, &none) && status_of(&jobs, 1) == Some(JobStatus::Completed));
     assert!(rt; start(&mut jobs, 2, &none) && jobs.front() == Some(3));
     assert!(rt; jobs.previous(2) == None && jobs.previous(3) == Some(1));
     assert!(rt; start(&mut jobs, 3, &PlanResult::ListFault));
@@ -266,9 +262,7 @@ fn the_end_of_a_file_stops_or_ends_the_job(rt: HostRuntime) {
     assert!(rt; status_of(&jobs, 1) == Some(JobStatus::Completed));
     assert!(rt; start(&mut jobs, 2, &plan));
     assert!(rt; status_of(&jobs, 2) == Some(JobStatus::Completed));
-    assert!(rt;
-        start(&mut jobs, 3, &PlanResult::SourceNotFound) && jobs.front() == None
-    );
+    assert!(rt; start(&mut jobs, 3, &PlanResult::SourceNotFound) && jobs.front() == None);
 }
 
 #[test]

@@ -9,7 +9,7 @@ opened : (c : goal.After-drop-journal-inside-4) → IfSome c.read_frames.result 
 opened c =
     let begins : Begins (memory.ghosts.seen c.in_ok-filled.filled.disk) (memory.ghosts.seen c.in-Ok.journal.disk) =
     subst (λ disk. Begins (memory.ghosts.seen disk) (memory.ghosts.seen c.in-Ok.journal.disk)) c.into_disk.ensures
-    (c.in-Ok.ensures.begins (inl (record { honest = tt; told = refl }))) in
+    (c.in-Ok.ensures.opens.begins (inl (record { honest = tt; told = refl }))) in
     c.read_frames.ensures (alike c.args.frames)
     (ahead_again (memory.ghosts.seen c.in_ok-filled.filled.disk) (memory.ghosts.seen c.in-Ok.journal.disk) c.in_ok-filled.filled.place c.in-Ok.journal.place
     (alike c.args.frames) c.in_ok-filled.ensures.ends.stands begins c.in-Ok.ensures.place)
