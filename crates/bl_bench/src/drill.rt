@@ -2,7 +2,8 @@
 // appended to a journal over a disk in memory.
 ghost use Rattle.std.specs.Prelude.{◌≡◌, ◌≤◌, ◌<◌, ◌^◌, length, IfSome, OnSome};
 ghost use Rattle.bl_value.specs.ValidColumns.{IsColumns};
-ghost use Rattle.bl_entry.specs.Valid.{IsEntry};
+ghost use Rattle.std.specs.List.{All};
+ghost use Rattle.bl_value.specs.Valid.{IsChange};
 ghost use Rattle.bl_graph.specs.ValidChanges.{HasValidValues};
 ghost use Rattle.bl_job.specs.Batched.{AreValidRows};
 ghost use Rattle.bl_journal.specs.Journals.{IsAtEnd};
@@ -68,9 +69,16 @@ fn next_rows(alloc: Global, columns: &Columns, reader: &mut RowReader) -> Option
     Some(rows)
 }
 
-// The entry of a batch, whose digest is the one behind its last row.
-fn entry_of(from: u64, digest: Digest, made: BatchResult) -> Entry {
-    Entry::Batch {
+// The bytes of a batch's entry. None where it has more changes than a list may have.
+fn entry_bytes(alloc: Global, from: u64, digest: Digest, made: BatchResult) -> Option<Text>
+    requires changes { All IsChange made.changes }
+    requires logs { length made.logs ≤ made.rows }
+    ensures { IfSome result (λ bytes. 0 < length bytes) }
+{
+    if made.changes.len() > u32::MAX as usize {
+        return None;
+    }
+    let entry = Entry::Batch {
         moment: 0,
         job: 1,
         feed: 1,
@@ -80,7 +88,8 @@ fn entry_of(from: u64, digest: Digest, made: BatchResult) -> Entry {
         duplicates: made.duplicates,
         logs: made.logs,
         changes: made.changes,
-    }
+    };
+    encode(alloc, &entry).ok()
 }
 
 /// A graph, the journal of its batches, and what was done.
@@ -172,4 +181,21 @@ impl Drill {
         }
         Some(())
     }
+}
+
+/// Loads the drill's two files of so many rows together, and counts what was done. None where
+/// there are fewer than two rows, a file would be too large, or memory ran out.
+pub fn drill(alloc: Global, rows: u64) -> Option<Drilled> {
+    let rows = u32::try_from(rows).ok()?;
+    if rows < 2 {
+        return None;
+    }
+    let vertices = rows / 2;
+    let request = request(alloc)?;
+    let mut drill = Drill::new(alloc)?;
+    load_text(&mut drill, &request, vertices_file(alloc, vertices).ok()?)?;
+    load_text(&mut drill, &request, edges_file(alloc, rows - vertices, vertices).ok()?)?;
+    drill.done.bytes = drill.journal.place();
+    drill.done.sizes = drill.graph.sizes();
+    Some(drill.done)
 }

@@ -1,7 +1,7 @@
 // Which calls of an object in memory fail.
 ghost use Rattle.std.specs.Prelude.{◌≡◌, OnOk, IsErrOf};
-ghost use Rattle.bl_outside.specs.Plans.{called, is_due, no_faults, one_more, plan_of};
-ghost use Rattle.bl_outside.specs.Counts.{HasDeviceCause};
+ghost use Rattle.bl_outside.specs.Plans.{called, is_due, no_faults, plan_of};
+ghost use Rattle.bl_outside.specs.Counts.{HasDeviceCause, one_more};
 ghost use Rattle.bl_outside.specs.declared.refusals.Outside.TheVariants.{
   Failed as device_failed,
   NoMemory as out_of_memory,
