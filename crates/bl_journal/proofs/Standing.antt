@@ -1,11 +1,9 @@
 -- A told content, and the one image of a settled disk.
-use Rattle.std.proofs.Common.{◌≡◌, ◌↔◌, ℕ, true, is_some, List, Some, None, refl, sym, ◌∙◌, ap, subst}
+use Rattle.std.proofs.Common.{◌≡◌, ℕ, List, Some, sym, ◌∙◌, ap, subst}
 use Rattle.std.specs.declared.option.Option.{Option}
-use Rattle.std.proofs.lemmas.Bool.{false≢true}
-use Rattle.bl_outside.specs.Disks.{OnlySeen, StepsTold, OfContent}
 use Rattle.bl_outside.specs.declared.disk.Disk.{Ghosts}
 use Rattle.bl_journal.specs.Frames.{Found, prefixed, frames, HasFrames}
-use Rattle.bl_journal.specs.Journals.{JournalRecord, IsSound, IsSettled, Ends, SeesFrames}
+use Rattle.bl_journal.specs.Journals.{JournalRecord, Ends, SeesFrames}
 use Rattle.bl_journal.proofs.Reaching.{prefix_none}
 pub use Rattle.bl_outside.proofs.Told.{content_told, of_told, only_told, told_written, settled_after, sound_after}
 

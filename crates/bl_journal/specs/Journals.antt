@@ -1,5 +1,5 @@
 -- A journal over its disk: what it has read, what lies ahead, and what a crash may leave.
-use Rattle.std.specs.Prelude.{◌≡◌, ◌⊎◌, ◌<◌, ◌≤◌, ◌+◌, ◌^◌, ℕ, true, is_some, List, [], ◌∷◌, ◌++◌, length, take, drop, None, Some, Result, Ok, Err, refl}
+use Rattle.std.specs.Prelude.{◌≡◌, ◌⊎◌, ◌<◌, ◌≤◌, ◌+◌, ◌^◌, ℕ, List, [], ◌∷◌, ◌++◌, length, take, drop, None, Some, Result, Ok, Err, refl}
 use Rattle.std.specs.Coded.{Coded, code_by, coded×, coded_ℕ}
 use Rattle.std.specs.declared.option.Option.{Option}
 pub use Rattle.bl_outside.specs.Sound.{IsSound, IsSettled, Since}

@@ -54,7 +54,8 @@ impl Link for MemoryLink {
     ghost take_keeps = { λ old new same.
         (ap (λ sink. Some sink.bytes) same, ap (λ sink. sink.faults) same) };
 
-    ghost put_keeps = { λ old new same.
-        (ap (λ source. Some (drop source.at source.bytes)) same,
-            ap (λ source. source.faults) same) };
+    ghost put_keeps = { λ old new same. (
+      ap (λ source. Some (drop source.at source.bytes)) same,
+      ap (λ source. source.faults) same,
+    ) };
 }
