@@ -207,8 +207,10 @@ fn is_right(found: Result<(bool, Option<u64>), NoMemory>, before: Option<u64>) -
 fn survives(alloc: Global, files: (&[u8], &[u8], Option<u64>), call: u64, for_good: bool) -> bool {
     let mut all = true;
     for fill in [Fill::Old, Fill::New, Fill::Ones] {
-        let plans = (plan(alloc, call, for_good), plan(alloc, call, for_good));
-        let (Ok(first), Ok(second)) = plans else {
+        let Ok(first) = plan(alloc, call, for_good) else {
+            return false;
+        };
+        let Ok(second) = plan(alloc, call, for_good) else {
             return false;
         };
         let left = after_stop(
