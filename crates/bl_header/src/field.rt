@@ -2,8 +2,16 @@
 ghost use Rattle.std.specs.Prelude.{◌≡◌, ◌≤◌, length, IfOk};
 ghost use Rattle.std.specs.Option.{option_copied};
 ghost use Rattle.bl_header.specs.Fields.{
-    begins_with_colon, is_name, is_system, name_of, name_part, plain_text, system_column, type_of,
-    type_part, unescaped
+  begins_with_colon,
+  is_name,
+  is_system,
+  name_of,
+  name_part,
+  plain_text,
+  system_column,
+  type_of,
+  type_part,
+  unescaped,
 };
 
 use crate::type_text::{TypeName, TypeText, type_text};
