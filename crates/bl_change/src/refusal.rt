@@ -1,6 +1,8 @@
 // Why a text is no event.
 ghost use Rattle.std.specs.Prelude.{◌≡◌};
-ghost use Rattle.bl_change.specs.declared.refusal.EventRefusal.TheVariants.{NoMemory as out_of_memory};
+ghost use Rattle.bl_change.specs.declared.refusal.EventRefusal.TheVariants.{
+    NoMemory as out_of_memory
+};
 
 use bl_outside::NoMemory;
 use thiserror::Error;

@@ -1,8 +1,38 @@
 // What one column is for, or its first fault.
-ghost use Rattle.std.specs.Prelude.{◌≡◌, ◌<◌, ◌≤◌, ◌+◌, [], false, map, take, length, slice_index_or, IfOk, IfErr};
+ghost use Rattle.std.specs.Prelude.{
+  ◌≡◌,
+  ◌<◌,
+  ◌≤◌,
+  ◌+◌,
+  [],
+  false,
+  map,
+  take,
+  length,
+  slice_index_or,
+  IfOk,
+  IfErr,
+};
 ghost use Rattle.std.specs.List.{list_any};
-ghost use Rattle.bl_header.specs.Fields.{column_use, is_name, is_single, is_system, name_of, property_column, system_column, type_of};
-ghost use Rattle.bl_header.specs.FirstFaults.{fault_at, own_fault, Gives, IsCleanBefore, IsLeftmost, type_fault, use_in};
+ghost use Rattle.bl_header.specs.Fields.{
+  column_use,
+  is_name,
+  is_single,
+  is_system,
+  name_of,
+  property_column,
+  system_column,
+  type_of,
+};
+ghost use Rattle.bl_header.specs.FirstFaults.{
+  fault_at,
+  own_fault,
+  Gives,
+  IsCleanBefore,
+  IsLeftmost,
+  type_fault,
+  use_in,
+};
 ghost use Rattle.bl_header.specs.Headers.{column_limit};
 ghost use Rattle.bl_value.specs.ValidColumns.{is_same_use};
 

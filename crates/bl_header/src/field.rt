@@ -1,7 +1,18 @@
 // What one field of a header says, once the spaces at its ends are gone.
 ghost use Rattle.std.specs.Prelude.{◌≡◌, ◌≤◌, length, IfOk};
 ghost use Rattle.std.specs.Option.{option_copied};
-ghost use Rattle.bl_header.specs.Fields.{begins_with_colon, is_name, is_system, name_of, name_part, plain_text, system_column, type_of, type_part, unescaped};
+ghost use Rattle.bl_header.specs.Fields.{
+  begins_with_colon,
+  is_name,
+  is_system,
+  name_of,
+  name_part,
+  plain_text,
+  system_column,
+  type_of,
+  type_part,
+  unescaped,
+};
 
 use crate::type_text::{TypeName, TypeText, type_text};
 use bl_outside::{NoMemory, Text, is_utf8};

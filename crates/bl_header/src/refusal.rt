@@ -1,7 +1,9 @@
 // Why a header is refused.
 ghost use Rattle.std.specs.Prelude.{◌≡◌};
 ghost use Rattle.bl_header.specs.Headers.{column_of};
-ghost use Rattle.bl_header.specs.declared.refusal.HeaderRefusal.TheVariants.{NoMemory as out_of_memory};
+ghost use Rattle.bl_header.specs.declared.refusal.HeaderRefusal.TheVariants.{
+  NoMemory as out_of_memory,
+};
 
 use bl_outside::NoMemory;
 use thiserror::Error;

@@ -2,7 +2,14 @@
 ghost use Rattle.std.specs.Prelude.{◌≡◌, map, IfOk};
 ghost use Rattle.std.specs.Option.{option_copied};
 ghost use Rattle.std.specs.Char.{to_ascii_lowercase};
-ghost use Rattle.bl_header.specs.TypeTexts.{before_ending, lower_type_text, named, type_name, type_text, with_cardinality};
+ghost use Rattle.bl_header.specs.TypeTexts.{
+  before_ending,
+  lower_type_text,
+  named,
+  type_name,
+  type_text,
+  with_cardinality,
+};
 
 use bl_outside::{NoMemory, Text};
 use bl_value::ValueType;

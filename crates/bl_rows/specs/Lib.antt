@@ -2,6 +2,7 @@ pub mod File
 pub mod Contents
 pub mod Digests
 pub mod RecordReaders
+pub mod Readings
 pub mod RowReaders
 pub mod Rows
 pub mod FirstFaults

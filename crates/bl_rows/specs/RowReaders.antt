@@ -11,11 +11,11 @@ use Rattle.bl_rows.specs.declared.row_reader.RowReader.{RowReader}
 pub record Stands (reader : RowReader) (all : List Fields) (taken : ℕ) (left : List Fields) : Type 0 where
   pub header_is : reader.header ≡ header_of all
   pub header_short : IsShort (header_of all)
-  pub empty_is : reader.empty ≡ has_no_record all
+  pub empty_is : reader.is_empty ≡ has_no_record all
   pub count_is : reader.taken ≡ taken
-  pub digest_is : reader.digest.bytes ≡ digest_after all taken
+  pub digest_is : reader.digest ≡ digest_after all taken
   pub left_is : left ≡ drop (taken + 1) all
-  pub has_left : HasLeft reader.records left
+  pub has_left : HasLeft reader.left left
   pub few : length all ≤ file_limit + 1
 
 -- The answer of a reader that stood so: the first record that is left, or none where none is.

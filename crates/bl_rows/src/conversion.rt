@@ -3,11 +3,23 @@ ghost use Rattle.std.specs.Prelude.{◌≡◌, ◌<◌, ◌^◌, ◌+◌, None, 
 ghost use Rattle.std.specs.List.{All};
 ghost use Rattle.std.specs.Option.{IfNone};
 ghost use Rattle.bl_rows.specs.FirstFaults.{
-    Tells, first_of, many_told, record_row, row_by, told, told_or, values_in_all, whole_code
+  Tells,
+  first_of,
+  many_told,
+  record_row,
+  row_by,
+  told,
+  told_or,
+  values_in_all,
+  whole_code,
 };
 ghost use Rattle.bl_rows.specs.Rows.{IsRowOf, edge_label, label_count, labels_in, properties_of};
 ghost use Rattle.bl_rows.specs.SystemCells.{
-    AreCellsOf, gathered, row_of_cells, system_told, told_at
+  AreCellsOf,
+  gathered,
+  row_of_cells,
+  system_told,
+  told_at,
 };
 ghost use Rattle.bl_value.specs.declared.log_code.LogCode.TheVariants.{IdTooLong, MissingId};
 ghost use Rattle.bl_value.specs.ValidColumns.{IsColumns};
@@ -52,8 +64,8 @@ fn checked_cells<'a>(
     ensures cells { IfOk result (λ cells. AreCellsOf columns.now fields.now (gathered cells)) }
     ensures whole { OnOk result (whole_code columns.now fields.now ≡ None) }
     ensures none { OnOk result (system_told columns.now fields.now ≡ None) }
-    ensures fault { IfErr result
-        (Tells (told_or (whole_code columns.now fields.now) 0 (system_told columns.now fields.now))) }
+    ensures fault { IfErr result (Tells (told_or (whole_code columns.now fields.now) 0
+        (system_told columns.now fields.now))) }
 {
     if let Some(code) = whole_fault(columns, fields) {
         return Err(Refused::Fault { code, column: 0 });
@@ -80,11 +92,7 @@ fn check_count(labels: usize, properties: &[Property]) -> Result<(), Refused>
 }
 
 // The row of a vertex with these cells.
-fn vertex_row(
-    alloc: Global,
-    cells: SystemCells,
-    properties: List<Property>,
-) -> Result<Row, Refused>
+fn vertex_row(alloc: Global, cells: SystemCells, properties: List<Property>) -> Result<Row, Refused>
     ensures row { IfOk result
         (λ row. row ≡ Row.Vertex cells.entry.id.now (labels_in cells.entry.label.now) properties) }
     ensures none { OnOk result
@@ -114,7 +122,8 @@ fn edge_label(label_cell: &[u8]) -> &[u8]
 // The row of an edge with these cells.
 fn edge_row(alloc: Global, cells: SystemCells, properties: List<Property>) -> Result<Row, Refused>
     ensures row { IfOk result
-        (λ row. row ≡ Row.Edge cells.entry.id.now (edge_label cells.entry.label.now) cells.entry.from.now cells.entry.to.now properties) }
+        (λ row. row ≡ Row.Edge cells.entry.id.now (edge_label cells.entry.label.now)
+        cells.entry.from.now cells.entry.to.now properties) }
     ensures none { OnOk result (many_told (1 + values_in_all properties) ≡ None) }
     ensures fault { IfErr result (Tells (many_told (1 + values_in_all properties))) }
 {
@@ -150,7 +159,8 @@ fn row_with(
 /// The row of a record without a fault.
 pub fn row_of(alloc: Global, columns: &Columns, fields: &[Text]) -> Result<Row, Refused>
     requires { length columns.now.uses < 2 ^ 32 }
-    ensures row { IfOk result (λ row. row ≡ row_by columns.now.side columns.now.uses fields.now (properties_of columns.now fields.now)) }
+    ensures row { IfOk result (λ row. row ≡ row_by columns.now.side columns.now.uses fields.now
+        (properties_of columns.now fields.now)) }
     ensures none { OnOk result (told columns.now fields.now ≡ None) }
     ensures fault { IfErr result (Tells (told columns.now fields.now)) }
     ensures valid { OnOk result (All HasValues (properties_of columns.now fields.now)) }

@@ -12,7 +12,8 @@ use bl_value::Columns;
 use std::alloc::Global;
 
 fn columns_of(alloc: Global, reader: &RowReader) -> Option<Columns>
-    requires { (all : Items Fields) × (taken : ℕ) × (left : Items Fields) × Stands reader.now all taken left }
+    requires { (all : Items Fields) × (taken : ℕ) × (left : Items Fields)
+        × Stands reader.now all taken left }
     ensures { IfSome result IsColumns }
 {
     read_header(alloc, reader.header()).ok()
@@ -44,7 +45,9 @@ fn lines_of(alloc: Global, file: &str) -> Option<Text> {
     if bytes.len() > FILE_LIMIT {
         return None;
     }
-    let mut reader = start(alloc, FileBytes { bytes }).ok()?;
+    let Ok(mut reader) = start(alloc, FileBytes { bytes }) else {
+        return None;
+    };
     let columns = columns_of(alloc, &reader)?;
     let mut lines = Text::new(alloc);
     push_rows(alloc, &columns, &mut reader, &mut lines).ok()?;

@@ -71,7 +71,8 @@ pub fn read_file<F: Folder>(
     ensures small { IfOk result (λ file. IsSmall file.bytes) }
     ensures files { F.files folder.new ≡ F.files folder.old }
     ensures later { F.faults folder.old ≤ F.faults folder.new }
-    ensures fault { IsErrOf result FileRefusal.ReadFault → Rose (F.faults folder.old) (F.faults folder.new) }
+    ensures fault { IsErrOf result FileRefusal.ReadFault
+        → Rose (F.faults folder.old) (F.faults folder.new) }
 {
     let mut bytes = Text::new(alloc);
     while bytes.len() <= FILE_LIMIT {

@@ -47,7 +47,8 @@ fn labels_of_items(alloc: Global, label_cell: &[u8]) -> Result<List<Text>, NoMem
 // Adds the label of an item, where it isn't empty, unless it is there.
 fn push_label(alloc: Global, item: &[u8], labels: &mut EachOnce<Text>) -> Result<(), NoMemory>
     ensures { OnOk result
-        (labels.new ≡ labels.old ++ once_behind (pointwise nat_eq) labels.old (some_labels (item.now ∷ []))) }
+        (labels.new ≡ labels.old
+        ++ once_behind (pointwise nat_eq) labels.old (some_labels (item.now ∷ []))) }
 {
     let label = without_spaces(item);
     if label.is_empty() {

@@ -1,9 +1,28 @@
 // The property cells of a record.
-ghost use Rattle.std.specs.Prelude.{◌≡◌, ◌≤◌, ◌<◌, ◌^◌, ◌++◌, ◌+◌, nat_le, None, length, IfOk, IfErr, OnOk};
+ghost use Rattle.std.specs.Prelude.{
+  ◌≡◌,
+  ◌≤◌,
+  ◌<◌,
+  ◌^◌,
+  ◌++◌,
+  ◌+◌,
+  nat_le,
+  None,
+  length,
+  IfOk,
+  IfErr,
+  OnOk,
+};
 ghost use Rattle.std.specs.List.{All};
 ghost use Rattle.std.specs.Str.{IsUtf8};
 ghost use Rattle.bl_value.specs.Valid.{IsValue};
-ghost use Rattle.bl_rows.specs.FirstFaults.{Tells, TellsOf, first_told, refused_code, values_in_all};
+ghost use Rattle.bl_rows.specs.FirstFaults.{
+  Tells,
+  TellsOf,
+  first_told,
+  refused_code,
+  values_in_all,
+};
 ghost use Rattle.bl_rows.specs.Rows.{properties_from, property_in, value_limit, values_in};
 ghost use Rattle.bl_value.specs.ValidRows.{HasValues};
 
@@ -26,7 +45,8 @@ fn values_in(
     requires text { IsUtf8 cell.now }
     ensures values { IfOk result (λ values. values ≡ values_in column.now cell.now) }
     ensures none { OnOk result (refused_code (ColumnUse.Property column.now) cell.now ≡ None) }
-    ensures fault { IfErr result (TellsOf (refused_code (ColumnUse.Property column.now) cell.now) number) }
+    ensures fault { IfErr result
+        (TellsOf (refused_code (ColumnUse.Property column.now) cell.now) number) }
     ensures valid { IfOk result (λ values. All IsValue values) }
 {
     match read_text_values(alloc, column.kind, column.many, cell) {
@@ -54,7 +74,8 @@ fn add_property(
 ) -> Result<(), Refused>
     requires short { length cell.now < 2 ^ 32 }
     requires text { IsUtf8 cell.now }
-    ensures added { OnOk result (properties.new ≡ properties.old ++ property_in number role.now cell.now) }
+    ensures added { OnOk result
+        (properties.new ≡ properties.old ++ property_in number role.now cell.now) }
     ensures none { OnOk result (refused_code role.now cell.now ≡ None) }
     ensures fault { IfErr result (TellsOf (refused_code role.now cell.now) number) }
     ensures valid { All HasValues properties.old → OnOk result (All HasValues properties.new) }
@@ -84,7 +105,8 @@ pub fn read_properties(
     requires few { length uses.now < 2 ^ 32 }
     requires texts { All IsUtf8 fields.now }
     requires short { All (λ field. length field < 2 ^ 32) fields.now }
-    ensures properties { IfOk result (λ properties. properties ≡ properties_from 1 uses.now fields.now) }
+    ensures properties { IfOk result
+        (λ properties. properties ≡ properties_from 1 uses.now fields.now) }
     ensures none { OnOk result (first_told refused_code 1 uses.now fields.now ≡ None) }
     ensures fault { IfErr result (Tells (first_told refused_code 1 uses.now fields.now)) }
     ensures valid { IfOk result (λ properties. All HasValues properties) }

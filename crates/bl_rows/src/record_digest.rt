@@ -36,18 +36,28 @@ pub fn digest_of_none() -> RecordDigest
     }
 }
 
-/// The digest of a header, whose text is put together in the room.
-pub fn digest_of_header(
+// The digest of these bytes and a record behind them, whose text is put together in the room.
+fn digest_of(
     room: &mut Vec<u8>,
-    header: &List<Text>,
+    before: &[u8],
+    fields: &List<Text>,
 ) -> Result<RecordDigest, NoMemory>
-    ensures { IfOk result (λ digest. digest.bytes ≡ sha256 (record_text header.now)) }
+    ensures { IfOk result
+        (λ digest. digest.bytes ≡ sha256 (before.now ++ record_text fields.now)) }
 {
     room.clear();
-    push_record(room, header.as_slice())?;
+    room.extend_from_slice(before)?;
+    push_record(room, fields.as_slice())?;
     Ok(RecordDigest {
         bytes: Sha256::digest(room.as_slice()),
     })
+}
+
+/// The digest of a header.
+pub fn digest_of_header(room: &mut Vec<u8>, header: &List<Text>) -> Result<RecordDigest, NoMemory>
+    ensures { IfOk result (λ digest. digest.bytes ≡ sha256 (record_text header.now)) }
+{
+    digest_of(room, &[], header)
 }
 
 /// The digest after one more record.
@@ -59,10 +69,5 @@ pub fn digest_behind(
     ensures { IfOk result
         (λ digest. digest.bytes ≡ sha256 (before.now.bytes ++ record_text fields.now)) }
 {
-    room.clear();
-    room.extend_from_slice(&before.bytes)?;
-    push_record(room, fields.as_slice())?;
-    Ok(RecordDigest {
-        bytes: Sha256::digest(room.as_slice()),
-    })
+    digest_of(room, &before.bytes, fields)
 }

@@ -1,11 +1,26 @@
 // The cells of the columns whose names begin with `~`: ids and labels.
 ghost use Rattle.std.specs.Prelude.{
-    ◌≡◌, ◌<◌, ◌^◌, ℕ, List as Items, if◌then◌else◌, Some, length, IfOk
+  ◌≡◌,
+  ◌<◌,
+  ◌^◌,
+  ℕ,
+  List as Items,
+  if◌then◌else◌,
+  Some,
+  length,
+  IfOk,
 };
 ghost use Rattle.std.specs.List.{list_all};
 ghost use Rattle.bl_value.specs.Cells.{without_spaces};
 ghost use Rattle.bl_rows.specs.Rows.{
-    is_from_use, is_id_use, is_key_use, is_label_use, is_long, is_long_label, is_short, is_to_use
+  is_from_use,
+  is_id_use,
+  is_key_use,
+  is_label_use,
+  is_long,
+  is_long_label,
+  is_short,
+  is_to_use,
 };
 ghost use Rattle.bl_rows.specs.SystemCells.{gather, gathered, with_system};
 
@@ -77,7 +92,8 @@ fn is_long_label(alloc: Global, side: Side, label_cell: &[u8]) -> Result<bool, N
 // The cell is an id or a label that is too long.
 fn is_long(alloc: Global, side: Side, role: &ColumnUse, cell: &[u8]) -> Result<bool, NoMemory>
     ensures { IfOk result
-        (λ long. (field : Items ℕ) → cell.now ≡ without_spaces field → long ≡ is_long side role.now field) }
+        (λ long. (field : Items ℕ) → cell.now ≡ without_spaces field
+        → long ≡ is_long side role.now field) }
 {
     if let ColumnUse::Label = role {
         return is_long_label(alloc, side, cell);
@@ -88,16 +104,24 @@ fn is_long(alloc: Global, side: Side, role: &ColumnUse, cell: &[u8]) -> Result<b
 // The cells with one more, that of this column.
 fn with_cell<'a>(later: SystemCells<'a>, role: &ColumnUse, cell: &'a [u8]) -> SystemCells<'a>
     ensures id { result.id.now ≡ (if is_id_use role.now then cell.now else later.entry.id.now) }
-    ensures label { result.label.now ≡ (if is_label_use role.now then cell.now else later.entry.label.now) }
-    ensures from { result.from.now ≡ (if is_from_use role.now then cell.now else later.entry.from.now) }
+    ensures label { result.label.now
+        ≡ (if is_label_use role.now then cell.now else later.entry.label.now) }
+    ensures from { result.from.now
+        ≡ (if is_from_use role.now then cell.now else later.entry.from.now) }
     ensures to { result.to.now ≡ (if is_to_use role.now then cell.now else later.entry.to.now) }
     ensures missing { result.missing ≡ later.entry.missing }
     ensures long { result.long ≡ later.entry.long }
 {
     match role {
         ColumnUse::Id => SystemCells { id: cell, ..later },
-        ColumnUse::Label => SystemCells { label: cell, ..later },
-        ColumnUse::From => SystemCells { from: cell, ..later },
+        ColumnUse::Label => SystemCells {
+            label: cell,
+            ..later
+        },
+        ColumnUse::From => SystemCells {
+            from: cell,
+            ..later
+        },
         ColumnUse::To => SystemCells { to: cell, ..later },
         ColumnUse::Property(_) => later,
     }
@@ -119,7 +143,8 @@ fn with_column<'a>(
     later: SystemCells<'a>,
 ) -> Result<SystemCells<'a>, NoMemory>
     ensures { IfOk result
-        (λ cells. gathered cells ≡ with_system side number role.now field.now (gathered later.entry)) }
+        (λ cells. gathered cells
+        ≡ with_system side number role.now field.now (gathered later.entry)) }
 {
     if let ColumnUse::Property(_) = role {
         return Ok(later);
