@@ -1,10 +1,9 @@
 -- Closing and filling, call by call.
-use Rattle.std.proofs.Common.{◌≡◌, ◌≢◌, inl, inr, ⊎_elim, ℕ, ◌+◌, ◌<◌, ◌≤◌, ◌^◌, List, [], ◌∷◌, ◌++◌, length, drop, get_or, Some, None, Ok, refl, sym, ◌∙◌, ap, subst, arith}
+use Rattle.std.proofs.Common.{◌≡◌, ◌≢◌, inl, inr, ⊎_elim, ℕ, ◌+◌, ◌<◌, ◌≤◌, ◌^◌, List, [], ◌∷◌, ◌++◌, length, drop, get_or, Some, Ok, sym, ◌∙◌, ap, subst, arith}
 use Rattle.std.specs.declared.option.Option.{Option}
 use Rattle.bl_outside.specs.declared.disk.Disk.{Ghosts}
 use Rattle.bl_outside.specs.Disks.{overwritten, Torn, OnlySeen, StepsTold, LeavesOnly, AsBeforeOrTorn}
 use Rattle.bl_outside.specs.Sound.{IsSettled, Since}
-use Rattle.bl_outside.specs.MemoryLaws.{torn_overwritten}
 use Rattle.bl_outside.proofs.Moments.{then_runs, weaker}
 use Rattle.bl_outside.proofs.Told.{only_told, told_written}
 use Rattle.bl_snapshot.specs.SlotFiles.{head, new_file, slot_in, behind_gate, ClosedOr}

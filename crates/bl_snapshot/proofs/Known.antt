@@ -1,13 +1,13 @@
 -- What two slots are known to hold, and which is the newest.
-use Rattle.std.proofs.Common.{◌≡◌, ◌↔◌, inl, inr, ⊎_elim, ℕ, ◌+◌, ◌<◌, ◌≤◌, Bool, true, false, List, [], ◌∷◌, ◌++◌, length, take, drop, Some, None, Ok, Err, refl, sym, ◌∙◌, ap, subst}
-use Rattle.std.specs.Prelude.{if◌then◌else◌, nat_lt, Result, IsErrAnd, IfErr}
+use Rattle.std.proofs.Common.{◌≡◌, ◌↔◌, inl, inr, ⊎_elim, ℕ, true, false, List, [], ◌∷◌, ◌++◌, take, drop, Some, None, Ok, Err, refl, sym, ◌∙◌, ap, subst}
+use Rattle.std.specs.Prelude.{if◌then◌else◌, Result, IsErrAnd, IfErr}
 use Rattle.std.specs.declared.option.Option.{Option}
 use Rattle.bl_outside.specs.declared.disk.Disk.{Ghosts}
-use Rattle.bl_outside.specs.Sound.{IsSound, IsSettled, Since}
+use Rattle.bl_outside.specs.Sound.{IsSettled}
 use Rattle.bl_outside.specs.declared.journal_fault.JournalFault.{JournalFault}
 use Rattle.bl_outside.specs.declared.journal_fault.JournalFault.TheVariants.{StoreFault, NotAJournal, NoMemory}
 use Rattle.bl_outside.proofs.Moments.{then_runs}
-use Rattle.bl_outside.proofs.Told.{content_told, only_told, settled_after, sound_after}
+use Rattle.bl_outside.proofs.Told.{content_told, settled_after}
 use Rattle.bl_snapshot.specs.SlotFiles.{head, slot_in, newer, entries_of}
 use Rattle.bl_snapshot.specs.TwoSlots.{works_left, Holds, IsShut, IsKnownAs, IsUntouched, Means, NewestIs, FaultIs, NumbersAre, NumbersFault, entries_in, IsOfDevice}
 use Rattle.bl_snapshot.specs.declared.snapshot.Snapshot.{Snapshot}

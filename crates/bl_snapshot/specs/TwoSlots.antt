@@ -1,12 +1,12 @@
 -- Two slots over their disks: which one is at work, what they hold, and what a call found.
-use Rattle.std.specs.Prelude.{◌≡◌, ◌≢◌, ◌⊎◌, ◌↔◌, ℕ, ◌+◌, ◌<◌, ◌≤◌, Bool, true, false, nat_lt, cond, List, [], ◌∷◌, ◌++◌, length, take, drop, slice_index, None, Some, Result, Ok, Err, refl}
+use Rattle.std.specs.Prelude.{◌≡◌, ◌≢◌, ◌⊎◌, ◌↔◌, ℕ, ◌+◌, ◌<◌, ◌≤◌, Bool, true, false, nat_lt, cond, List, ◌∷◌, ◌++◌, length, take, drop, slice_index, None, Some, Result, Ok, Err, refl}
 use Rattle.std.specs.Coded.{Coded, code_by, coded×, coded_ℕ, coded_option}
 use Rattle.std.specs.declared.option.Option.{Option}
 use Rattle.bl_outside.specs.Sound.{IsSound, IsSettled, Since}
 use Rattle.bl_outside.specs.declared.disk.Disk.{Ghosts}
 use Rattle.bl_outside.specs.declared.journal_fault.JournalFault.{JournalFault}
 use Rattle.bl_outside.specs.declared.journal_fault.JournalFault.TheVariants.{StoreFault, NotAJournal, NoMemory}
-use Rattle.bl_snapshot.specs.SlotFiles.{head, slot_in, snapshot_at, snapshot_of, newer, entries_of}
+use Rattle.bl_snapshot.specs.SlotFiles.{head, slot_in, snapshot_at, newer, entries_of}
 use Rattle.bl_snapshot.specs.declared.snapshot.Snapshot.{Snapshot}
 use Rattle.bl_snapshot.specs.declared.slot_file.Numbers.{Numbers}
 use Rattle.bl_snapshot.specs.declared.slot_file.Gate.{Gate}

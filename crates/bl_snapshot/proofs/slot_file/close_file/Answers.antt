@@ -1,5 +1,4 @@
 use Rattle.std.proofs.Common.{Some, subst, refl}
-use Rattle.bl_outside.specs.Sound.{IsSettled}
 use Rattle.bl_snapshot.specs.TwoSlots.{GateIs}
 use Rattle.bl_snapshot.proofs.Calls.{closing, created_shut, closed_shut, still_shut}
 use Rattle.bl_outside.proofs.Told.{settled_after}

@@ -1,4 +1,4 @@
-use Rattle.std.proofs.Common.{◌<◌, List, ℕ, Ok, Some, length, subst, take, drop}
+use Rattle.std.proofs.Common.{◌<◌, List, ℕ, Ok, length, subst, take, drop}
 use Rattle.bl_outside.specs.Disks.{OfContent}
 use Rattle.bl_snapshot.specs.TwoSlots.{LengthIs}
 use Rattle.bl_snapshot.proofs.Readings.{never_short}

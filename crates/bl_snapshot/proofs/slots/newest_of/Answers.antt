@@ -1,5 +1,4 @@
-use Rattle.std.proofs.Common.{◌≡◌, List, ℕ, Ok, Some, refl, sym, ◌∙◌, ap, subst}
-use Rattle.bl_snapshot.specs.SlotFiles.{slot_in}
+use Rattle.std.proofs.Common.{sym, ◌∙◌, ap, subst}
 use Rattle.bl_snapshot.specs.TwoSlots.{IsKnownAs, FaultIs, works_left, entries_in}
 use Rattle.bl_snapshot.proofs.Known.{handed_on, faults, fault_right, newest_left, newest_right, known_by, untouched_then, settled_then}
 use Rattle.bl_snapshot.proofs.slots.newest_of.Goals as goal
