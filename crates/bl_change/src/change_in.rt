@@ -15,7 +15,7 @@ use serde_json::Value as Json;
 use std::alloc::Global;
 
 /// The change that may have this record, with its `op`: no other one has it.
-pub(crate) fn change_in(alloc: Global, json: &Json, op: &str) -> Result<Change, EventRefusal>
+pub fn change_in(alloc: Global, json: &Json, op: &str) -> Result<Change, EventRefusal>
     ensures valid { IfOk result IsChange }
     ensures found { Finds
         (λ change. IsChange change × (op.now ≡ op_name change)

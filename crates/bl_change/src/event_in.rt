@@ -12,7 +12,7 @@ use serde_json::Value as Json;
 use std::alloc::Global;
 
 /// The event that may have this record: no other one has it.
-pub(crate) fn event_in(alloc: Global, json: &Json) -> Result<Event, EventRefusal>
+pub fn event_in(alloc: Global, json: &Json) -> Result<Event, EventRefusal>
     ensures valid { IfOk result IsEvent }
     ensures found { Finds (λ event. IsEvent event × (view json.now ≡ event_data event)) result }
 {

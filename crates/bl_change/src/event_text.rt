@@ -5,7 +5,10 @@ ghost use Rattle.serde_json.specs.Data.{string, put as with_member};
 ghost use Rattle.serde_json.specs.View.{view, members_view};
 ghost use Rattle.bl_value.specs.declared.value.Value.TheVariants.{Str};
 ghost use Rattle.bl_value.specs.Valid.{IsPrintable, IsPrintableValue};
-ghost use Rattle.bl_change.specs.EventText.{data_type, typed_data, property_type, element_data, edge_data, change_data, op_name, place_data, record_data, event_data, event_text};
+ghost use Rattle.bl_change.specs.EventText.{
+    data_type, typed_data, property_type, element_data, edge_data, change_data, op_name,
+    place_data, record_data, event_data, event_text
+};
 
 use crate::Event;
 use bl_outside::{NoMemory, Text};
@@ -76,8 +79,8 @@ fn change_json(alloc: Global, change: &Change) -> Result<Json, NoMemory>
 {
     match change {
         Change::AddLabel { id, label } => {
-            let label = label_json(alloc, str_of(label))?;
-            element_json(alloc, "vl", str_of(id), "label", label)
+            let label = label_json(alloc, label.as_str())?;
+            element_json(alloc, "vl", id.as_str(), "label", label)
         }
         Change::AddEdge {
             id,
@@ -85,8 +88,8 @@ fn change_json(alloc: Global, change: &Change) -> Result<Json, NoMemory>
             from,
             to,
         } => {
-            let label = label_json(alloc, str_of(label))?;
-            edge_json(alloc, str_of(id), str_of(from), str_of(to), label)
+            let label = label_json(alloc, label.as_str())?;
+            edge_json(alloc, id.as_str(), from.as_str(), to.as_str(), label)
         }
         Change::AddValue {
             side,
@@ -123,8 +126,8 @@ fn property_json(
     element_json(
         alloc,
         kind,
-        str_of(id),
-        str_of(key),
+        id.as_str(),
+        key.as_str(),
         value_json(alloc, value)?,
     )
 }
@@ -195,15 +198,4 @@ fn type_name(value: &Value) -> &str
         Value::Str(_) => "String",
         Value::Date(_) => "Date",
     }
-}
-
-// The text as Rust's own.
-fn str_of(text: &Text) -> &str
-    requires { IsUtf8 text.now }
-    ensures { result.now ≡ text.now }
-{
-    let Ok(text) = str::from_utf8(text.as_slice()) else {
-        unreachable!();
-    };
-    text
 }

@@ -11,7 +11,8 @@ pub fn no_two_events_have_one_text()
     ensures { EachHasItsText }
 {}
 
-/// What [`read_event`](crate::read_event) answers to the text of an event is that event, or NoMemory.
+/// What [`read_event`](crate::read_event) answers to the text of an event is that event, or
+/// NoMemory.
 pub fn each_event_is_read_back()
     ensures { EachIsReadBack }
 {}

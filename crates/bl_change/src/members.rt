@@ -9,11 +9,12 @@ ghost use Rattle.bl_change.specs.Found.{Finds, FindsNone};
 
 use crate::EventRefusal;
 use bl_outside::Text;
+use bl_value::{ID_LIMIT, KEY_LIMIT};
 use serde_json::Value as Json;
 use std::alloc::Global;
 
 /// The member of this name.
-pub(crate) fn member_at<'a>(json: &'a Json, name: &str) -> Result<&'a Json, EventRefusal>
+pub fn member_at<'a>(json: &'a Json, name: &str) -> Result<&'a Json, EventRefusal>
     ensures { MatchResult result
         (λ member. get name.now (view json.now) ≡ Some (view member.now))
         (FindsNone (λ member. get name.now (view json.now) ≡ Some member)) }
@@ -21,7 +22,7 @@ pub(crate) fn member_at<'a>(json: &'a Json, name: &str) -> Result<&'a Json, Even
     json.get(name).ok_or(EventRefusal::NotAnEvent)
 }
 
-pub(crate) fn bool_at(json: &Json, name: &str) -> Result<bool, EventRefusal>
+pub fn bool_at(json: &Json, name: &str) -> Result<bool, EventRefusal>
     ensures { Finds (λ truth. get name.now (view json.now) ≡ Some (boolean truth)) result }
 {
     let Some(truth) = member_at(json, name)?.as_bool() else {
@@ -30,7 +31,7 @@ pub(crate) fn bool_at(json: &Json, name: &str) -> Result<bool, EventRefusal>
     Ok(truth)
 }
 
-pub(crate) fn number_at(json: &Json, name: &str) -> Result<u64, EventRefusal>
+pub fn number_at(json: &Json, name: &str) -> Result<u64, EventRefusal>
     ensures { Finds (λ n. get name.now (view json.now) ≡ Some (number (unsigned n))) result }
 {
     let Some(number) = member_at(json, name)?.as_u64() else {
@@ -40,7 +41,7 @@ pub(crate) fn number_at(json: &Json, name: &str) -> Result<u64, EventRefusal>
 }
 
 /// A number from 1.
-pub(crate) fn ordinal_at(json: &Json, name: &str) -> Result<u64, EventRefusal>
+pub fn ordinal_at(json: &Json, name: &str) -> Result<u64, EventRefusal>
     ensures valid { IfOk result (λ n. 1 ≤ n) }
     ensures found { Finds
         (λ n. (1 ≤ n) × (get name.now (view json.now) ≡ Some (number (unsigned n)))) result }
@@ -52,7 +53,7 @@ pub(crate) fn ordinal_at(json: &Json, name: &str) -> Result<u64, EventRefusal>
     Ok(number)
 }
 
-pub(crate) fn integer_at(json: &Json, name: &str) -> Result<i64, EventRefusal>
+pub fn integer_at(json: &Json, name: &str) -> Result<i64, EventRefusal>
     ensures { Finds
         (λ n. FitsSigned w64 n × (get name.now (view json.now) ≡ Some (number (of_integer n))))
         result }
@@ -63,7 +64,7 @@ pub(crate) fn integer_at(json: &Json, name: &str) -> Result<i64, EventRefusal>
     Ok(integer)
 }
 
-pub(crate) fn text_at<'a>(json: &'a Json, name: &str) -> Result<&'a str, EventRefusal>
+pub fn text_at<'a>(json: &'a Json, name: &str) -> Result<&'a str, EventRefusal>
     ensures { MatchResult result
         (λ text. get name.now (view json.now) ≡ Some (string text.now))
         (FindsNone (λ text. get name.now (view json.now) ≡ Some (string text))) }
@@ -74,27 +75,27 @@ pub(crate) fn text_at<'a>(json: &'a Json, name: &str) -> Result<&'a str, EventRe
     Ok(text)
 }
 
-/// An id or a label, of 1 to 1,024 bytes.
-pub(crate) fn id_at(alloc: Global, json: &Json, name: &str) -> Result<Text, EventRefusal>
+/// An id or a label, of 1 byte or more.
+pub fn id_at(alloc: Global, json: &Json, name: &str) -> Result<Text, EventRefusal>
     ensures valid { IfOk result IsId }
     ensures found { Finds
         (λ id. IsId id × (get name.now (view json.now) ≡ Some (string id))) result }
 {
     let id = text_at(json, name)?;
-    if id.is_empty() || id.len() > 1024 {
+    if id.is_empty() || id.len() > ID_LIMIT {
         return Err(EventRefusal::NotAnEvent);
     }
     Ok(Text::copy_of(alloc, id.as_bytes())?)
 }
 
-/// A property's key, of 1 to 256 bytes.
-pub(crate) fn key_at(alloc: Global, json: &Json, name: &str) -> Result<Text, EventRefusal>
+/// A property's key, of 1 byte or more.
+pub fn key_at(alloc: Global, json: &Json, name: &str) -> Result<Text, EventRefusal>
     ensures valid { IfOk result IsKey }
     ensures found { Finds
         (λ key. IsKey key × (get name.now (view json.now) ≡ Some (string key))) result }
 {
     let key = text_at(json, name)?;
-    if key.is_empty() || key.len() > 256 {
+    if key.is_empty() || key.len() > KEY_LIMIT {
         return Err(EventRefusal::NotAnEvent);
     }
     Ok(Text::copy_of(alloc, key.as_bytes())?)

@@ -9,7 +9,7 @@ use bl_value::Side;
 
 /// What a change does, and to what.
 #[derive(Clone, Copy, Debug)]
-pub(crate) enum Operation {
+pub enum Operation {
     AddLabel,
     AddEdge,
     AddValue(Side),
@@ -17,7 +17,7 @@ pub(crate) enum Operation {
 }
 
 /// The operation that a record's type and `op` name.
-pub(crate) fn operation_named(kind: &str, op: &str) -> Result<Operation, EventRefusal>
+pub fn operation_named(kind: &str, op: &str) -> Result<Operation, EventRefusal>
     ensures { Finds (λ operation. (change : Change) × (operation ≡ operation_of change)
         × (kind.now ≡ record_type change) × (op.now ≡ op_name change)) result }
 {

@@ -4,29 +4,29 @@ ghost use Rattle.bl_value.specs.Valid.{IsId, IsKey, IsChange, IsPrintableValue};
 
 use crate::{Event, print_event};
 use bl_outside::{NoMemory, Text};
-use bl_value::{Change, Side, Value};
+use bl_value::{Change, FIRST_DATE, KEY_LIMIT, LAST_DATE, Side, Value};
 use std::alloc::Global;
 
 #[derive(Clone, Copy)]
-pub(crate) enum Kind {
+pub enum Kind {
     Label,
     Edge,
     Add(Side),
     Remove(Side),
 }
 
-// 1 to 256 bytes.
+// A text that may be an id and a key.
 fn word(alloc: Global, text: &str) -> Result<Text, NoMemory>
     ensures id { IfOk result IsId }
     ensures key { IfOk result IsKey }
 {
-    if text.is_empty() || text.len() > 256 {
+    if text.is_empty() || text.len() > KEY_LIMIT {
         return Err(NoMemory);
     }
-    Text::copy_of(alloc, text.as_bytes())
+    Text::of_str(alloc, text)
 }
 
-pub(crate) fn change(alloc: Global, kind: Kind, words: [&str; 4]) -> Result<Change, NoMemory>
+pub fn change(alloc: Global, kind: Kind, words: [&str; 4]) -> Result<Change, NoMemory>
     ensures { IfOk result IsChange }
 {
     let id = word(alloc, words[0])?;
@@ -119,7 +119,7 @@ fn without_text(value: Value) -> Result<Value, NoMemory>
 {
     match value {
         Value::Str(_) => Err(NoMemory),
-        Value::Date(seconds) if !(-62167219200..=253402300799).contains(&seconds) => Err(NoMemory),
+        Value::Date(seconds) if !(FIRST_DATE..=LAST_DATE).contains(&seconds) => Err(NoMemory),
         value => Ok(value),
     }
 }

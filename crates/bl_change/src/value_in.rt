@@ -12,12 +12,12 @@ ghost use Rattle.bl_change.specs.Found.{Finds, IsValueIn, type_of};
 use crate::EventRefusal;
 use crate::members::{bool_at, integer_at, text_at};
 use bl_outside::Text;
-use bl_value::{CellRefusal, Value, ValueType, is_empty_cell, read_cell};
+use bl_value::{CellRefusal, TEXT_LIMIT, Value, ValueType, is_empty_cell, read_cell};
 use serde_json::Value as Json;
 use std::alloc::Global;
 
 /// The value that may have this JSON, with its type: no other one has it.
-pub(crate) fn value_in(alloc: Global, json: &Json) -> Result<Value, EventRefusal>
+pub fn value_in(alloc: Global, json: &Json) -> Result<Value, EventRefusal>
     ensures valid { IfOk result IsValue }
     ensures found { Finds
         (λ value. IsValue value × (view json.now ≡ typed_data value)) result }
@@ -111,7 +111,7 @@ fn text_in(alloc: Global, json: &Json) -> Result<Value, EventRefusal>
     ensures found { Finds (IsValueIn type.Str (view json.now)) result }
 {
     let text = text_at(json, "value")?;
-    if text.len() > u32::MAX as usize {
+    if text.len() > TEXT_LIMIT {
         return Err(EventRefusal::NotAnEvent);
     }
     Ok(Value::Str(Text::copy_of(alloc, text.as_bytes())?))

@@ -74,10 +74,15 @@ HasLine WriteFault = Unit {0}
 HasLine NoMemory = Unit {0}
 HasLine NotBuilt = Unit {0}
 
--- The line of a status was added to the error output, or its sink failed, and then the status says so.
+-- The line of a status was added to the error output, or its sink failed in a front of it, and then the status says so.
 abbrev pub Reports : Option (List ℕ) → Option (List ℕ) → ℕ → ℕ → Status → Status → Type 0
 Reports old new before now status result =
-    ((result ≡ status) × Written old new (Adds (line_of status))) ⊎ ((result ≡ WriteFault) × Rose before now × HasLine status)
+    ((result ≡ status) × Written old new (Adds (line_of status))) ⊎ ((result ≡ WriteFault) × Rose before now × HasLine status × Written old new (AddsFront (line_of status)))
+
+-- The line of the result was added whole, or the error output failed in a front of a line.
+abbrev pub HasReported : Option (List ℕ) → Option (List ℕ) → ℕ → ℕ → Status → Type 0
+HasReported old new before now result =
+    Written old new (Adds (line_of result)) ⊎ ((result ≡ WriteFault) × Rose before now × ((status : Status) × Written old new (AddsFront (line_of status))))
 
 -- Nothing was written on the output, or a front of what the words ask for.
 abbrev pub EndsInFront : Option Files → List (List ℕ) → ℕ → ℕ → Option (List ℕ) → Option (List ℕ) → Type 0

@@ -36,25 +36,16 @@ pub struct Loaded {
 impl Loaded {
     ghost use Rattle.bl_cli.specs.Loads.{nothing};
 
-    fn nothing(alloc: Global) -> Loaded
+    fn nothing(alloc: Global, seed: u128) -> Loaded
         ensures { result ≡ nothing }
     {
         Loaded {
-            graph: Graph::empty(alloc),
+            graph: Graph::empty(alloc, seed),
             changes: List::new(alloc),
             records: 0,
             duplicates: 0,
         }
     }
-}
-
-fn append(all: &mut List<Change>, changes: List<Change>) -> Result<(), NoMemory>
-    ensures { OnOk result (all.new ≡ all.old ++ changes) }
-{
-    for change in changes.into_vec() {
-        all.push(change)?;
-    }
-    Ok(())
 }
 
 /// A load, and how much of its batch is taken.
@@ -67,11 +58,11 @@ pub struct Taken {
 impl Taken {
     ghost use Rattle.bl_cli.specs.Loads.{nothing_taken};
 
-    fn nothing(alloc: Global) -> Taken
+    fn nothing(alloc: Global, seed: u128) -> Taken
         ensures { result ≡ nothing_taken }
     {
         Taken {
-            loaded: Loaded::nothing(alloc),
+            loaded: Loaded::nothing(alloc, seed),
             batch: Batch::nothing_yet(),
         }
     }
@@ -86,7 +77,7 @@ fn take_row(loaded: &mut Loaded, row: &Row) -> Result<bool, NoMemory>
     match loaded.graph.admit(false, row)? {
         Verdict::Changes(changes) => {
             loaded.graph.apply_all(&changes)?;
-            append(&mut loaded.changes, changes)?;
+            loaded.changes.append(changes)?;
         }
         Verdict::Duplicate => loaded.duplicates += 1,
         Verdict::Refused(..) => return Ok(false),
@@ -121,6 +112,7 @@ fn take_record(
 // The load of the records that are left. None where they pass a batch, or a row is refused.
 fn load_records(
     alloc: Global,
+    seed: u128,
     columns: &Columns,
     reader: &mut RowReader,
 ) -> Result<Option<Loaded>, NoMemory>
@@ -130,7 +122,7 @@ fn load_records(
     ensures printable { IfOk result (λ loaded. IfSome loaded (λ load. All IsPrintable load.changes)) }
     ensures replays { IfOk result (λ loaded. IfSome loaded (λ load. after empty_graph load.changes ≡ load.graph)) }
 {
-    let mut taken = Taken::nothing(alloc);
+    let mut taken = Taken::nothing(alloc, seed);
     while let Some(fields) = reader.next()? {
         if !take_record(alloc, columns, &mut taken, &fields)? {
             return Ok(None);
@@ -139,8 +131,13 @@ fn load_records(
     Ok(Some(taken.loaded))
 }
 
-/// The load of a file. None where it isn't one that is loaded so far.
-pub fn load_bytes(alloc: Global, file: FileBytes) -> Result<Option<Loaded>, NoMemory>
+/// The load of a file, whose ids are hashed by the seed. None where it isn't one that is loaded so
+/// far.
+pub fn load_bytes(
+    alloc: Global,
+    seed: u128,
+    file: FileBytes,
+) -> Result<Option<Loaded>, NoMemory>
     requires { IsSmall file.bytes }
     ensures load { IfOk result (IsThe (IsContentLoad (contents file.bytes))) }
     ensures printable { IfOk result (λ loaded. IfSome loaded (λ load. All IsPrintable load.changes)) }
@@ -148,12 +145,12 @@ pub fn load_bytes(alloc: Global, file: FileBytes) -> Result<Option<Loaded>, NoMe
 {
     let mut reader = start(alloc, file)?;
     if reader.is_empty() {
-        return Ok(Some(Loaded::nothing(alloc)));
+        return Ok(Some(Loaded::nothing(alloc, seed)));
     }
     let Some(columns) = set_columns(alloc, reader.header())? else {
         return Ok(None);
     };
-    load_records(alloc, &columns, &mut reader)
+    load_records(alloc, seed, &columns, &mut reader)
 }
 
 /// The name says that the file is compressed.

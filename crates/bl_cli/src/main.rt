@@ -26,6 +26,7 @@ use bl_system::{FileDisk, ReadSource, RealFolder, WriteSink};
 pub use status::Status;
 use std::alloc::{AllocError, Global};
 use std::env;
+use std::io::ErrorKind;
 use std::process::ExitCode;
 use std::thread::Threads;
 pub use top::run;
@@ -53,13 +54,20 @@ fn disks_of(
     })
 }
 
-// The arguments behind the program's own name. None where they can't be read as text.
-fn arguments(rt: &HostRuntime) -> Option<Vec<String>> {
+// The arguments behind the program's own name, or why they can't be had: one is no text, or memory ran out.
+fn arguments(rt: &HostRuntime) -> Result<Vec<String>, Status> {
+    let all = match env::args(rt) {
+        Ok(all) => all,
+        Err(e) if e.kind() == ErrorKind::OutOfMemory => return Err(Status::NoMemory),
+        Err(_) => return Err(Status::Usage),
+    };
     let mut words = Vec::new(rt.alloc());
-    for word in env::args(rt).ok()?.skip(1) {
-        words.push(word).ok()?;
+    for word in all.skip(1) {
+        if words.push(word).is_err() {
+            return Err(Status::NoMemory);
+        }
     }
-    Some(words)
+    Ok(words)
 }
 
 // Runs the words over the real folder, disks and streams.
@@ -103,11 +111,11 @@ fn refuse(rt: HostRuntime, status: Status) -> Status {
 
 fn main(rt: HostRuntime) -> ExitCode {
     let status = match arguments(&rt) {
-        Some(words) => match run_real(&rt, rt, &words) {
+        Ok(words) => match run_real(&rt, rt, &words) {
             Ok(status) => status,
             Err(_) => refuse(rt, Status::NoMemory),
         },
-        None => refuse(rt, Status::Usage),
+        Err(status) => refuse(rt, status),
     };
     ExitCode::from(status.code())
 }

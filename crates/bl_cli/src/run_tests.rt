@@ -1,7 +1,7 @@
 // Runs of the program over a folder, disks and streams in memory.
 use crate::{Status, run};
 use bl_outside::{
-    Disks, Faults, FixedClock, List, MemoryDisk, MemoryFolder, MemorySink, MemorySource, NoMemory,
+    Clock, Disks, Faults, FixedClock, List, MemoryDisk, MemoryFolder, MemorySink, MemorySource, NoMemory,
     Text,
 };
 use std::alloc::{AllocError, Global};
@@ -44,9 +44,26 @@ fn run_over<R: Threads + Sync>(
     bytes: &[u8],
     fails: (u64, u64, u64),
 ) -> Result<Outcome, NoMemory> {
+    run_at(runtime, alloc, words, bytes, fails, &mut FixedClock::new(0), 0)
+}
+
+// The same with another clock and salt. There is a compressed file beside the one.
+fn run_at<R: Threads + Sync, K: Clock>(
+    runtime: &R,
+    alloc: Global,
+    words: &str,
+    bytes: &[u8],
+    fails: (u64, u64, u64),
+    clock: &mut K,
+    salt: u128,
+) -> Result<Outcome, NoMemory> {
     let mut folder = MemoryFolder::new(alloc, 3_000, failing(alloc, fails.0)?);
     folder.put_file(
         Text::copy_of(alloc, b"b/x.csv")?,
+        Text::copy_of(alloc, bytes)?,
+    )?;
+    folder.put_file(
+        Text::copy_of(alloc, b"b/x.csv.gz")?,
         Text::copy_of(alloc, bytes)?,
     )?;
     let disks = Disks {
@@ -64,8 +81,8 @@ fn run_over<R: Threads + Sync>(
         &words,
         &mut folder,
         disks,
-        &mut FixedClock::new(0),
-        0,
+        clock,
+        salt,
         &mut input,
         &mut out,
         &mut err,
@@ -75,6 +92,29 @@ fn run_over<R: Threads + Sync>(
         out: out.bytes().copy(alloc)?,
         err: err.bytes().copy(alloc)?,
     })
+}
+
+// A clock that goes on by a second at each reading.
+#[derive(Drop)]
+struct TickingClock {
+    last: u64,
+    readings: u64,
+}
+
+impl Clock for TickingClock {
+    ghost use Rattle.std.specs.Prelude.{None};
+
+    ghost last = { λ c. c.last };
+
+    ghost readings = { λ c. c.readings };
+
+    ghost fixed = { λ _. None };
+
+    fn now(&mut self) -> u64 {
+        self.readings = self.readings.saturating_add(1);
+        self.last = self.last.saturating_add(1_000);
+        self.last
+    }
 }
 
 // A head, and a part that comes several times.
@@ -128,6 +168,7 @@ fn the_words_decide_what_is_loaded(rt: HostRuntime) {
         ("help", Status::Usage, NONE, USAGE),
         ("load s3://b", Status::NotBuilt, NONE, NOT_BUILT),
         ("load s3://b/y.csv", Status::NotBuilt, NONE, NOT_BUILT),
+        ("load s3://b/x.csv.gz", Status::NotBuilt, NONE, NOT_BUILT),
     ];
     for (words, status, out, err) in table {
         let outcome = run_over(&rt, rt.alloc(), words, PEOPLE, (0, 0, 0)).expect(&rt, "memory");
@@ -338,5 +379,53 @@ fn values_of_every_type_are_printed(rt: HostRuntime) {
             outcome.out.as_slice() == lines.as_slice(),
             "output of {bytes:?}"
         );
+    }
+}
+
+const AT_A_SECOND: &[u8] =
+    b"{\"commitTimestamp\":1000,\"data\":{\"id\":\"v1\",\"key\":\"label\",\"type\":\"vl\",\"value\":{\"dataType\":\"String\",\"value\":\"person\"}},\"eventId\":{\"commitNum\":1,\"opNum\":1},\"op\":\"ADD\"}\n{\"commitTimestamp\":1000,\"data\":{\"id\":\"v1\",\"key\":\"name\",\"type\":\"vp\",\"value\":{\"dataType\":\"String\",\"value\":\"Ann\"}},\"eventId\":{\"commitNum\":1,\"opNum\":2},\"isLastOp\":true,\"op\":\"ADD\"}\n00112233-4455-4677-8899-000000000001 LOAD_COMPLETED 1 0 0 0 0\n";
+
+// The moment is that of one reading, and the id has the first ten bytes of the salt.
+#[test]
+fn a_load_reads_its_clock_once(rt: HostRuntime) {
+    let mut clock = TickingClock {
+        last: 0,
+        readings: 0,
+    };
+    let outcome = run_at(
+        &rt,
+        rt.alloc(),
+        "load s3://b/x.csv --changes",
+        PEOPLE,
+        (0, 0, 0),
+        &mut clock,
+        0x0011_2233_4455_6677_8899_aabb_ccdd_eeff,
+    )
+    .expect(&rt, "memory");
+    assert!(rt; outcome.out.as_slice() == AT_A_SECOND && clock.readings == 1);
+}
+
+const EIGHT: &[u8] = b"00000000-0000-4000-8000-000000000001 LOAD_COMPLETED 8 7 0 0 0\n";
+
+// So many records of 1,048,576 bytes, the most that one may have. Eight of them are 8,388,608.
+fn large_records(alloc: Global, times: usize) -> Result<Text, NoMemory> {
+    let mut record = repeated(alloc, b"a,", b"x", 1_048_575)?;
+    record.push(b'\n')?;
+    repeated(alloc, b"~id,t\n", record.as_slice(), times)
+}
+
+#[test]
+fn a_batch_ends_with_the_record_that_reaches_its_bytes(rt: HostRuntime) {
+    for (times, status, output) in [(8, Status::Ok, EIGHT), (9, Status::NotBuilt, NONE)] {
+        let file = large_records(rt.alloc(), times).expect(&rt, "memory");
+        let outcome = run_over(
+            &rt,
+            rt.alloc(),
+            "load s3://b/x.csv",
+            file.as_slice(),
+            (0, 0, 0),
+        )
+        .expect(&rt, "memory");
+        assert!(rt; outcome.status == status && outcome.out.as_slice() == output);
     }
 }

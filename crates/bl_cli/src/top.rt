@@ -2,15 +2,14 @@
 ghost use Rattle.std.specs.Prelude.{◌≡◌, ◌⊎◌, ◌≤◌, ◌++◌, ◌↔◌, map, string_bytes, IfOk, IfSome, MatchOption, None, Some};
 ghost use Rattle.std.specs.List.{All};
 ghost use Rattle.std.specs.Str.{IsUtf8};
-ghost use Rattle.bl_outside.specs.Counts.{HasDeviceCause, Rose};
+ghost use Rattle.bl_outside.specs.Counts.{HasDeviceCause, IsReadOnce, Rose};
 ghost use Rattle.bl_value.specs.Valid.{IsPrintable};
 ghost use Rattle.bl_graph.specs.Graph.{empty as empty_graph};
 ghost use Rattle.bl_graph.specs.Replay.{after};
 ghost use Rattle.bl_cli.specs.Words.{asked};
 ghost use Rattle.bl_cli.specs.Loads.{IsFileLoad, IsThe};
 ghost use Rattle.bl_cli.specs.Outputs.{failed_line, load_output};
-ghost use Rattle.bl_cli.specs.Runs.{Adds, EndsInFront, HasLine, IsAnswer, IsNotBuilt, IsQuiet, LeavesFront, LoadPrints, OfCommand, OfFiles, Prints, Reports, Written};
-ghost use Rattle.bl_cli.specs.Statuses.{line_of};
+ghost use Rattle.bl_cli.specs.Runs.{Adds, EndsInFront, HasLine, HasReported, IsAnswer, IsNotBuilt, IsQuiet, LeavesFront, LoadPrints, OfCommand, OfFiles, Prints, Reports, Written};
 
 use crate::loading::{Loaded, is_compressed, load_bytes};
 use crate::outputs::{failed_line, load_output};
@@ -26,6 +25,7 @@ use std::thread::Threads;
 // The load of the file at a path. None where there is none that is loaded so far.
 fn load_file<F: Folder>(
     alloc: Global,
+    seed: u128,
     folder: &mut F,
     path: &Text,
 ) -> Result<Option<Loaded>, Outside>
@@ -44,7 +44,7 @@ fn load_file<F: Folder>(
         return Ok(None);
     }
     match read_file(alloc, folder, path) {
-        Ok(file) => Ok(load_bytes(alloc, file)?),
+        Ok(file) => Ok(load_bytes(alloc, seed, file)?),
         Err(FileRefusal::Missing | FileRefusal::TooLarge) => Ok(None),
         Err(FileRefusal::ReadFault) => Err(Outside::Failed),
         Err(FileRefusal::NoMemory) => Err(Outside::NoMemory),
@@ -74,6 +74,7 @@ fn print_load<K: Clock, O: Sink>(
     out: &mut O,
 ) -> Status
     requires { All IsPrintable loaded.changes }
+    ensures clock { IsReadOnce (K.readings clock.old) (K.readings clock.new) }
     ensures prints { Prints Status.Ok (load_output salt (K.last clock.new) changes loaded) (O.written out.old) (O.written out.new) result }
     ensures write_fault { result ≡ Status.WriteFault → Rose (O.faults out.old) (O.faults out.new) }
     ensures later { O.faults out.old ≤ O.faults out.new }
@@ -107,6 +108,7 @@ fn finish<K: Clock, O: Sink>(
     out: &mut O,
 ) -> Status
     requires { IfSome found (λ load. All IsPrintable load.changes) }
+    ensures clock { IsReadOnce (K.readings clock.old) (K.readings clock.new) }
     ensures ends { MatchOption found ((result ≡ Status.NotBuilt) × (O.written out.new ≡ O.written out.old))
         (λ load. Prints Status.Ok (load_output salt (K.last clock.new) changes load) (O.written out.old) (O.written out.new) result) }
     ensures write_fault { result ≡ Status.WriteFault → Rose (O.faults out.old) (O.faults out.new) }
@@ -128,6 +130,7 @@ fn load<F: Folder, K: Clock, O: Sink>(
     out: &mut O,
 ) -> Status
     requires { IsUtf8 command.now.path }
+    ensures clock { IsReadOnce (K.readings clock.old) (K.readings clock.new) }
     ensures ok { result ≡ Status.Ok → LoadPrints Adds (F.files folder.old) command.now salt (K.last clock.new) (O.written out.old) (O.written out.new) }
     ensures not_completed { result ≡ Status.JobNotCompleted → Written (O.written out.old) (O.written out.new) (Adds (failed_line salt)) }
     ensures failed { result ≡ Status.JobNotCompleted → Rose (F.faults folder.old) (F.faults folder.new) }
@@ -138,7 +141,7 @@ fn load<F: Folder, K: Clock, O: Sink>(
     ensures usage { ¬ (result ≡ Status.Usage) }
     ensures files { F.files folder.new ≡ F.files folder.old }
 {
-    match load_file(alloc, folder, &command.path) {
+    match load_file(alloc, salt, folder, &command.path) {
         Ok(found) => finish(alloc, clock, salt, command.changes, found, out),
         Err(Outside::Failed) => print_failed(alloc, salt, out),
         Err(Outside::NoMemory) => Status::NoMemory,
@@ -154,6 +157,7 @@ fn answer<F: Folder, K: Clock, O: Sink>(
     salt: u128,
     out: &mut O,
 ) -> Status
+    ensures clock { IsReadOnce (K.readings clock.old) (K.readings clock.new) }
     ensures ok { result ≡ Status.Ok → OfCommand (map string_bytes words.now) (λ command. LoadPrints Adds (F.files folder.old) command salt (K.last clock.new) (O.written out.old) (O.written out.new)) }
     ensures not_completed { result ≡ Status.JobNotCompleted → Written (O.written out.old) (O.written out.new) (Adds (failed_line salt)) }
     ensures failed { result ≡ Status.JobNotCompleted → Rose (F.faults folder.old) (F.faults folder.new) }
@@ -204,6 +208,7 @@ fn respond<F: Folder, K: Clock, O: Sink, E: Sink>(
     out: &mut O,
     err: &mut E,
 ) -> Status
+    ensures clock { IsReadOnce (K.readings clock.old) (K.readings clock.new) }
     ensures ok { result ≡ Status.Ok → OfCommand (map string_bytes words.now) (λ command. LoadPrints Adds (F.files folder.old) command salt (K.last clock.new) (O.written out.old) (O.written out.new)) }
     ensures not_completed { result ≡ Status.JobNotCompleted → Written (O.written out.old) (O.written out.new) (Adds (failed_line salt)) }
     ensures failed { result ≡ Status.JobNotCompleted → Rose (F.faults folder.old) (F.faults folder.new) }
@@ -212,7 +217,7 @@ fn respond<F: Folder, K: Clock, O: Sink, E: Sink>(
     ensures quiet { (result ≡ Status.Usage) ⊎ (result ≡ Status.NotBuilt) ⊎ (result ≡ Status.NoMemory) → O.written out.new ≡ O.written out.old }
     ensures write_fault { result ≡ Status.WriteFault → Rose (O.faults out.old) (O.faults out.new) ⊎ Rose (E.faults err.old) (E.faults err.new) }
     ensures front { result ≡ Status.WriteFault → EndsInFront (F.files folder.old) (map string_bytes words.now) salt (K.last clock.new) (O.written out.old) (O.written out.new) }
-    ensures line { (result ≡ Status.WriteFault) ⊎ Written (E.written err.old) (E.written err.new) (Adds (line_of result)) }
+    ensures line { HasReported (E.written err.old) (E.written err.new) (E.faults err.old) (E.faults err.new) result }
     ensures files { F.files folder.new ≡ F.files folder.old }
 {
     let status = answer(alloc, words, folder, clock, salt, out);
@@ -259,8 +264,10 @@ pub fn run<R: Threads + Sync, F: Folder, D: Disk, K: Clock, S: Source, O: Sink, 
     ensures complete { IsQuiet (F.faults folder.old) (F.faults folder.new) (O.faults out.old) (O.faults out.new) (E.faults err.old) (E.faults err.new)
         → IsAnswer (F.files folder.old) (asked (map string_bytes words.now)) result.0 }
 
-    // The line of the status, and what stays as it was.
-    ensures line { (result.0 ≡ Status.WriteFault) ⊎ Written (E.written err.old) (E.written err.new) (Adds (line_of result.0)) }
+    // The line of the status, whole, or a front of a line where the error output failed. The clock is
+    // read once at the most, and what is left alone stays as it was.
+    ensures line { HasReported (E.written err.old) (E.written err.new) (E.faults err.old) (E.faults err.new) result.0 }
+    ensures clock { IsReadOnce (K.readings clock.old) (K.readings clock.new) }
     ensures disks { result.1 ≡ disks }
     ensures input { input.new ≡ input.old }
     ensures files { F.files folder.new ≡ F.files folder.old }

@@ -1,3 +1,4 @@
+mod EscapedNames
 mod NameParts
 mod Repeats
 mod FirstFaults

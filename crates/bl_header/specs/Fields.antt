@@ -1,7 +1,7 @@
 -- What a field of a header says (Neptune User Guide, "Gremlin load data format"): `~id`, `~label`,
 -- `~from`, `~to`, or a property's name, optionally a colon and a type text. The fields here have lost
 -- the ASCII spaces at both ends.
-use Rattle.std.specs.Prelude.{ℕ, ◌==◌, nat_le, Bool, true, false, not, ◌&&◌, if◌then◌else◌, codes, List, [], ◌∷◌, drop, length, None, Some}
+use Rattle.std.specs.Prelude.{◌≡◌, ℕ, ◌==◌, nat_le, Bool, true, false, not, ◌&&◌, if◌then◌else◌, codes, List, [], ◌∷◌, drop, length, None, Some}
 use Rattle.std.specs.declared.option.Option.{Option}
 use Rattle.std.specs.Option.{option_map, option_and_then}
 use Rattle.std.specs.Str.{is_utf8}
@@ -10,6 +10,7 @@ use Rattle.bl_value.specs.declared.column.ColumnUse.{ColumnUse}
 use Rattle.bl_value.specs.declared.column.ColumnUse.TheVariants.{Id, Label, From, To, Property}
 use Rattle.bl_value.specs.declared.column.Side.{Side}
 use Rattle.bl_value.specs.declared.column.Side.TheVariants.{Vertex, Edge}
+use Rattle.bl_value.specs.Valid.{key_limit}
 use Rattle.bl_value.specs.ValidColumns.{ColumnName, is_same_name, of_property, use_name}
 use Rattle.bl_header.specs.declared.type_text.TypeName.{TypeName}
 use Rattle.bl_header.specs.declared.type_text.TypeName.TheVariants.{Kept, Float}
@@ -60,9 +61,9 @@ unescaped (byte ∷ rest) = if byte == 92 && begins_with_colon rest then unescap
 abbrev pub name_of : List ℕ → List ℕ
 name_of field = unescaped (name_part field)
 
--- 1 to 256 bytes of UTF-8
+-- UTF-8 of 1 byte or more, and not too many
 abbrev pub is_name : List ℕ → Bool
-is_name name = (not (length name == 0) && nat_le (length name) 256) && is_utf8 name
+is_name name = (not (length name == 0) && nat_le (length name) key_limit) && is_utf8 name
 
 -- any number of texts, one in a cell
 abbrev pub plain_text : TypeText
@@ -110,3 +111,16 @@ is_same_column_by _ _ = false
 -- two fields of the same system column, or of properties that have one name
 abbrev pub is_same_column : List ℕ → List ℕ → Bool
 is_same_column a b = is_same_column_by (column_name a) (column_name b)
+
+-- a name with a backslash right before each of its colons
+abbrev pub escaped : List ℕ → List ℕ
+escaped [] = []
+escaped (byte ∷ rest) = if byte == 58 then 92 ∷ (58 ∷ escaped rest) else byte ∷ escaped rest
+
+-- the column of texts with this name, of a field without a type text
+abbrev pub plain_column : Side → List ℕ → ColumnUse
+plain_column side name = Property (record { name = name; kind = Str; single = is_single side None; many = false })
+
+-- A name whose colons are escaped is read back as a column of texts.
+abbrev pub NamesAreReadBack : Type 0
+NamesAreReadBack = (side : Side) (name : List ℕ) → is_name name ≡ true → is_system name ≡ false → column_use side (escaped name) ≡ Some (plain_column side name)

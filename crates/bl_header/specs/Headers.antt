@@ -7,9 +7,13 @@ use Rattle.bl_header.specs.declared.refusal.HeaderRefusal.TheVariants.{NoId, Hal
 use Rattle.bl_header.specs.Fields.{column_use}
 use Rattle.bl_header.specs.Faults.{Fault, bad_name, unknown_system, unknown_type, float_column, single_array, edge_not_single, repeated, has_field, side_of, HasNoFault, IsFirstFault}
 
--- at most 1,024 columns, none with a fault
+-- the most columns that a file may have
+abbrev pub column_limit : ℕ
+column_limit = 1024
+
+-- not too many columns, none with a fault
 pub record IsSound (fields : List (List ℕ)) : Type 0 where
-  pub few : length fields ≤ 1024
+  pub few : length fields ≤ column_limit
   pub no_fault : HasNoFault fields
 
 -- the header is accepted, and these are its columns
@@ -31,13 +35,13 @@ pub record IsHalfEdge (fields : List (List ℕ)) : Type 0 where
   pub id : has_field (codes "~id") fields ≡ true
   pub half : ¬ (has_field (codes "~from") fields ≡ has_field (codes "~to") fields)
 
--- at most 1,024 columns, and this is the first fault of all
+-- not too many columns, and this is the first fault of all
 abbrev pub IsFaulty : List (List ℕ) → ℕ → Fault → Type 0
-IsFaulty fields column fault = (length fields ≤ 1024) × IsFirstFault fields column fault
+IsFaulty fields column fault = (length fields ≤ column_limit) × IsFirstFault fields column fault
 
 -- the refusal is that of the fields; want of memory comes at any time
 abbrev pub IsRefusal : List (List ℕ) → HeaderRefusal → Type 0
-IsRefusal fields (TooManyColumns number) = (1024 < length fields) × (number ≡ length fields)
+IsRefusal fields (TooManyColumns number) = (column_limit < length fields) × (number ≡ length fields)
 IsRefusal fields (BadName column) = IsFaulty fields column bad_name
 IsRefusal fields (UnknownSystem column) = IsFaulty fields column unknown_system
 IsRefusal fields (UnknownType column) = IsFaulty fields column unknown_type

@@ -1,8 +1,39 @@
 // What one column is for, or its first fault.
-ghost use Rattle.std.specs.Prelude.{◌≡◌, ◌<◌, ◌≤◌, ◌+◌, [], false, map, take, length, slice_index_or, IfOk, IfErr};
+ghost use Rattle.std.specs.Prelude.{
+  ◌≡◌,
+  ◌<◌,
+  ◌≤◌,
+  ◌+◌,
+  [],
+  false,
+  map,
+  take,
+  length,
+  slice_index_or,
+  IfOk,
+  IfErr,
+};
 ghost use Rattle.std.specs.List.{list_any};
-ghost use Rattle.bl_header.specs.Fields.{column_use, is_name, is_single, is_system, name_of, property_column, system_column, type_of};
-ghost use Rattle.bl_header.specs.FirstFaults.{fault_at, own_fault, Gives, IsCleanBefore, IsLeftmost, type_fault, use_in};
+ghost use Rattle.bl_header.specs.Fields.{
+  column_use,
+  is_name,
+  is_single,
+  is_system,
+  name_of,
+  property_column,
+  system_column,
+  type_of,
+};
+ghost use Rattle.bl_header.specs.FirstFaults.{
+  fault_at,
+  own_fault,
+  Gives,
+  IsCleanBefore,
+  IsLeftmost,
+  type_fault,
+  use_in,
+};
+ghost use Rattle.bl_header.specs.Headers.{column_limit};
 ghost use Rattle.bl_value.specs.ValidColumns.{is_same_use};
 
 use crate::HeaderRefusal;
@@ -13,12 +44,12 @@ use bl_value::{Column, ColumnUse, Side, without_spaces};
 use std::alloc::Global;
 
 /// The uses of all columns, or the refusal of the leftmost that has a fault.
-pub(crate) fn read_columns(
+pub fn read_columns(
     alloc: Global,
     side: Side,
     fields: &[Text],
 ) -> Result<List<ColumnUse>, HeaderRefusal>
-    requires { length fields.now ≤ 1024 }
+    requires { length fields.now ≤ column_limit }
     ensures ok { IfOk result (λ uses. map Some uses ≡ map (use_in side) fields.now) }
     ensures clean { IfOk result (λ uses. IsCleanBefore side fields.now (length fields.now)) }
     ensures err { IfErr result (IsLeftmost side fields.now) }
@@ -39,7 +70,7 @@ fn read_column(
     fields: &[Text],
     place: usize,
 ) -> Result<ColumnUse, HeaderRefusal>
-    requires few { length fields.now ≤ 1024 }
+    requires few { length fields.now ≤ column_limit }
     requires within { place < length fields.now }
     requires left { map Some left.now ≡ map (use_in side) (take place fields.now) }
     ensures ok { IfOk result (λ it. use_in side (slice_index_or fields.now place []) ≡ Some it) }

@@ -1,24 +1,32 @@
 // What one field of a header says, once the spaces at its ends are gone.
 ghost use Rattle.std.specs.Prelude.{◌≡◌, ◌≤◌, length, IfOk};
 ghost use Rattle.std.specs.Option.{option_copied};
-ghost use Rattle.bl_header.specs.Fields.{begins_with_colon, is_name, is_system, name_of, name_part, plain_text, system_column, type_of, type_part, unescaped};
+ghost use Rattle.bl_header.specs.Fields.{
+  begins_with_colon,
+  is_name,
+  is_system,
+  name_of,
+  name_part,
+  plain_text,
+  system_column,
+  type_of,
+  type_part,
+  unescaped,
+};
 
 use crate::type_text::{TypeName, TypeText, type_text};
 use bl_outside::{NoMemory, Text, is_utf8};
-use bl_value::{ColumnUse, ValueType};
+use bl_value::{ColumnUse, KEY_LIMIT, ValueType};
 use std::alloc::Global;
 
 /// A field of a system column begins with `~`.
-pub(crate) fn is_system(field: &[u8]) -> bool
+pub fn is_system(field: &[u8]) -> bool
     ensures { result ≡ is_system field.now }
 {
-    match field {
-        [b'~', ..] => true,
-        _ => false,
-    }
+    matches!(field, [b'~', ..])
 }
 
-pub(crate) fn system_column(field: &[u8]) -> Option<ColumnUse>
+pub fn system_column(field: &[u8]) -> Option<ColumnUse>
     ensures { result ≡ system_column field.now }
 {
     if field == b"~id".as_slice() {
@@ -35,21 +43,21 @@ pub(crate) fn system_column(field: &[u8]) -> Option<ColumnUse>
 }
 
 /// The name has 1 to 256 bytes and is UTF-8.
-pub(crate) fn is_name(name: &[u8]) -> bool
+pub fn is_name(name: &[u8]) -> bool
     ensures { result ≡ is_name name.now }
 {
-    !name.is_empty() && name.len() <= 256 && is_utf8(name)
+    !name.is_empty() && name.len() <= KEY_LIMIT && is_utf8(name)
 }
 
 /// The name of a property, in which `\:` gives a colon.
-pub(crate) fn name_of(alloc: Global, field: &[u8]) -> Result<Text, NoMemory>
+pub fn name_of(alloc: Global, field: &[u8]) -> Result<Text, NoMemory>
     ensures { IfOk result (λ name. name ≡ name_of field.now) }
 {
     unescaped(alloc, name_part(field))
 }
 
 /// The type of a property. None where the text behind the colon is no type.
-pub(crate) fn type_of(alloc: Global, field: &[u8]) -> Result<Option<TypeText>, NoMemory>
+pub fn type_of(alloc: Global, field: &[u8]) -> Result<Option<TypeText>, NoMemory>
     ensures { IfOk result (λ it. it ≡ type_of field.now) }
 {
     match type_part(field) {
@@ -120,8 +128,5 @@ fn unescaped(alloc: Global, name: &[u8]) -> Result<Text, NoMemory>
 fn begins_with_colon(text: &[u8]) -> bool
     ensures { result ≡ begins_with_colon text.now }
 {
-    match text {
-        [b':', ..] => true,
-        _ => false,
-    }
+    matches!(text, [b':', ..])
 }

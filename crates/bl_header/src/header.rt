@@ -10,6 +10,9 @@ use bl_outside::{List, Text};
 use bl_value::{Columns, Side, without_spaces};
 use std::alloc::Global;
 
+/// The most columns that a file may have.
+pub const COLUMN_LIMIT: usize = 1_024;
+
 /// What the columns of a file are for, by the fields of its first record. More than 1,024 fields
 /// are refused before all else, then the leftmost column with a fault, then a missing `~id`, then
 /// an end of an edge without the other.
@@ -18,7 +21,7 @@ pub fn read_header(alloc: Global, fields: &List<Text>) -> Result<Columns, Header
     ensures value { Reads fields.now result }
     ensures valid { IfOk result IsColumns }
 {
-    if fields.len() > 1024 {
+    if fields.len() > COLUMN_LIMIT {
         return Err(HeaderRefusal::TooManyColumns(fields.len() as u32));
     }
     let fields = fields.as_slice();

@@ -17,8 +17,8 @@ mod laws;
 mod refusal;
 mod type_text;
 
-pub use header::read_header;
-pub use laws::type_texts_are_read_as_spelled;
+pub use header::{COLUMN_LIMIT, read_header};
+pub use laws::{names_are_read_back, type_texts_are_read_as_spelled};
 pub use refusal::HeaderRefusal;
 
 #[cfg(test)]

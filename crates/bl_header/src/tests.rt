@@ -1,7 +1,7 @@
 // Headers, and the faults of headers.
 ghost use Rattle.std.specs.Prelude.{◌≡◌, ◌≤◌, length, IfOk};
 
-use crate::{HeaderRefusal, read_header};
+use crate::{HeaderRefusal, names_are_read_back, read_header, type_texts_are_read_as_spelled};
 use bl_outside::{List, NoMemory, Text};
 use bl_value::{Column, ColumnUse, Columns, Side, ValueType};
 use std::alloc::Global;
@@ -129,10 +129,10 @@ fn a_field_says_name_type_cardinality_and_array(rt: HostRuntime) {
     ] {
         let mut fields = List::new(rt.alloc());
         fields
-            .push(Text::copy_of(rt.alloc(), b" ~id").expect(&rt, "memory"))
+            .push(Text::of_str(rt.alloc(), " ~id").expect(&rt, "memory"))
             .expect(&rt, "memory");
         fields
-            .push(Text::copy_of(rt.alloc(), field.as_bytes()).expect(&rt, "memory"))
+            .push(Text::of_str(rt.alloc(), field).expect(&rt, "memory"))
             .expect(&rt, "memory");
         match read_fields(rt.alloc(), &fields) {
             Ok(columns) => {
@@ -144,6 +144,45 @@ fn a_field_says_name_type_cardinality_and_array(rt: HostRuntime) {
                 );
             }
             Err(_) => assert!(rt; false, "{field}"),
+        }
+    }
+}
+
+// `~id`, and a name with a backslash before each of its colons.
+fn escaped(alloc: Global, name: &str) -> Result<List<Text>, NoMemory> {
+    let mut field = Text::new(alloc);
+    for byte in name.as_bytes() {
+        if *byte == b':' {
+            field.push(b'\\')?;
+        }
+        field.push(*byte)?;
+    }
+    let mut fields = List::new(alloc);
+    fields.push(Text::of_str(alloc, "~id")?)?;
+    fields.push(field)?;
+    Ok(fields)
+}
+
+#[test]
+fn a_name_whose_colons_are_escaped_is_read_back(rt: HostRuntime) {
+    names_are_read_back();
+    type_texts_are_read_as_spelled();
+    for name in [
+        "a", ":", "::", "a:Int", "a\\:b", "\\", "a\\", "é:ü", "a:b:c[]",
+    ] {
+        let fields = escaped(rt.alloc(), name).expect(&rt, "memory");
+        match read_fields(rt.alloc(), &fields) {
+            Ok(columns) => assert!(rt;
+                is_property(
+                    columns.uses.get(1),
+                    name.as_bytes(),
+                    ValueType::Str,
+                    false,
+                    false
+                ),
+                "{name}"
+            ),
+            Err(_) => assert!(rt; false, "{name}"),
         }
     }
 }
@@ -169,10 +208,10 @@ fn a_file_with_both_ends_is_about_edges(rt: HostRuntime) {
 // `~id`, and then properties with other numbers for names.
 fn numbered(alloc: Global, fields: usize) -> Result<List<Text>, NoMemory> {
     let mut list = List::new(alloc);
-    list.push(Text::copy_of(alloc, b"~id")?)?;
+    list.push(Text::of_str(alloc, "~id")?)?;
     for number in 1..fields {
         let name = format!(in alloc; "n{number}")?;
-        list.push(Text::copy_of(alloc, name.as_bytes())?)?;
+        list.push(Text::of_str(alloc, name.as_str())?)?;
     }
     Ok(list)
 }
@@ -186,7 +225,7 @@ fn there_are_at_most_1024_columns(rt: HostRuntime) {
     }
     let mut fields = numbered(rt.alloc(), 1024).expect(&rt, "memory");
     fields
-        .push(Text::copy_of(rt.alloc(), b"~color").expect(&rt, "memory"))
+        .push(Text::of_str(rt.alloc(), "~color").expect(&rt, "memory"))
         .expect(&rt, "memory");
     let refusal = read_fields(rt.alloc(), &fields).err();
     assert!(rt; refusal == Some(HeaderRefusal::TooManyColumns(1025)));
@@ -195,7 +234,7 @@ fn there_are_at_most_1024_columns(rt: HostRuntime) {
 // `~id`, and a name that has this length, where each byte is this one.
 fn long_name(alloc: Global, length: usize, byte: u8) -> Result<List<Text>, NoMemory> {
     let mut list = List::new(alloc);
-    list.push(Text::copy_of(alloc, b"~id")?)?;
+    list.push(Text::of_str(alloc, "~id")?)?;
     let mut name = Text::new(alloc);
     for _ in 0..length {
         name.push(byte)?;

@@ -2,7 +2,14 @@
 ghost use Rattle.std.specs.Prelude.{◌≡◌, map, IfOk};
 ghost use Rattle.std.specs.Option.{option_copied};
 ghost use Rattle.std.specs.Char.{to_ascii_lowercase};
-ghost use Rattle.bl_header.specs.TypeTexts.{before_ending, lower_type_text, named, type_name, type_text, with_cardinality};
+ghost use Rattle.bl_header.specs.TypeTexts.{
+  before_ending,
+  lower_type_text,
+  named,
+  type_name,
+  type_text,
+  with_cardinality,
+};
 
 use bl_outside::{NoMemory, Text};
 use bl_value::ValueType;
@@ -10,7 +17,7 @@ use std::alloc::Global;
 
 /// The type that a name stands for.
 #[derive(Clone, Copy, Debug, PartialEq, Eq)]
-pub(crate) enum TypeName {
+pub enum TypeName {
     Kept(ValueType),
     /// Float or Double, whose values aren't kept.
     Float,
@@ -18,14 +25,14 @@ pub(crate) enum TypeName {
 
 /// How many values a property has.
 #[derive(Clone, Copy, Debug, PartialEq, Eq)]
-pub(crate) enum Cardinality {
+pub enum Cardinality {
     Single,
     Set,
 }
 
 /// What a type text says.
 #[derive(Clone, Copy, Debug, PartialEq, Eq)]
-pub(crate) struct TypeText {
+pub struct TypeText {
     pub name: TypeName,
     pub cardinality: Option<Cardinality>,
     /// A cell holds a list of values.
@@ -33,7 +40,7 @@ pub(crate) struct TypeText {
 }
 
 /// What a type text says. None where it is no type text.
-pub(crate) fn type_text(alloc: Global, text: &[u8]) -> Result<Option<TypeText>, NoMemory>
+pub fn type_text(alloc: Global, text: &[u8]) -> Result<Option<TypeText>, NoMemory>
     ensures { IfOk result (λ it. it ≡ type_text text.now) }
 {
     let lower = lower(alloc, text)?;

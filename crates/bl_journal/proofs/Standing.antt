@@ -7,53 +7,19 @@ use Rattle.bl_outside.specs.declared.disk.Disk.{Ghosts}
 use Rattle.bl_journal.specs.Frames.{Found, prefixed, frames, HasFrames}
 use Rattle.bl_journal.specs.Journals.{JournalRecord, IsSound, IsSettled, Ends, SeesFrames}
 use Rattle.bl_journal.proofs.Reaching.{prefix_none}
-
-pub content_told : (seen : Option (List ℕ)) → is_some seen ≡ true → (content : List ℕ) × (seen ≡ Some content)
-content_told None is = absurd (false≢true is)
-content_told (Some content) is = (content, refl)
-
-pub of_told : {T : Type 0} (seen : Option (List ℕ)) (content : List ℕ) (f : List ℕ → T) (x : T) → seen ≡ Some content → OfContent seen f x → x ≡ f content
-of_told seen content f x is told = subst (λ o. OfContent o f x) is told
+pub use Rattle.bl_outside.proofs.Told.{content_told, of_told, only_told, told_written, settled_after, sound_after}
 
 pub sees_told : (seen : Option (List ℕ)) (content : List ℕ) (all : Found) → seen ≡ Some content → frames content ≡ all → SeesFrames seen all
 sees_told seen content all told is = subst (λ o. SeesFrames o all) (sym told) is
 
-pub only_told : (seen : Option (List ℕ)) (content : List ℕ) (left : List ℕ → Type 0) → seen ≡ Some content → OnlySeen seen left → (c : List ℕ) → left c → c ≡ content
-only_told seen content left is only = subst (λ o. OnlySeen o left) is only
-
-pub told_written : (old new : Option (List ℕ)) (content : List ℕ) (F : List ℕ → List ℕ) → old ≡ Some content → StepsTold (λ o n. n ≡ F o) old new → new ≡ Some (F content)
-told_written old new content F is steps = after new (subst (λ o. StepsTold (λ o n. n ≡ F o) o new) is steps)
-  where
-    after : (n : Option (List ℕ)) → StepsTold (λ o n. n ≡ F o) (Some content) n → n ≡ Some (F content)
-    after None steps = absurd steps
-    after (Some x) steps = ap (λ l. Some l) steps
-
 module _ {D : Type 0} (of : Ghosts D) where
-  -- a call that changes nothing leaves a settled disk settled
-  pub settled_after : (old new : D) → IsSettled of old → of.seen new ≡ of.seen old → (of.honest new ↔ of.honest old) → (of.honest old → (c : List ℕ) → of.may_leave new c → of.may_leave old c) → IsSettled of new
-  settled_after old new s seen honest crash = record {
-    honest = honest.1 s.honest;
-    only = fewer (of.seen old) (of.seen new) seen s.only;
-  }
-    where
-      fewer : (before now : Option (List ℕ)) → now ≡ before → OnlySeen before (of.may_leave old) → OnlySeen now (of.may_leave new)
-      fewer before None is only = tt
-      fewer before (Some content) is only = λ c left. only_told before content (of.may_leave old) (sym is) only c (crash s.honest c left)
-
   -- at the end of a settled journal each image has just its frames
   pub ends_has : (journal : JournalRecord D) (bodies : List (List ℕ)) (e : Ends of journal bodies) → (c : List ℕ) → of.may_leave journal.disk c → HasFrames c bodies
   ends_has journal bodies e c now =
       ap frames (only_told (of.seen journal.disk) e.stands.content (of.may_leave journal.disk) e.stands.told e.settled.only c now)
       ∙ e.stands.reaches.own ∙ ap (λ (m : Found). prefixed bodies m) (sym e.stands.rest) ∙ prefix_none bodies
 
-  -- a call that leaves told and honest alone keeps a disk sound, in both directions
-  pub sound_after : (old new : D) → of.seen new ≡ of.seen old → (of.honest new ↔ of.honest old) → (IsSound of old ↔ IsSound of new)
-  sound_after old new seen honest = (
-    λ s. record { honest = honest.1 s.honest; told = ap is_some seen ∙ s.told },
-    λ s. record { honest = honest.0 s.honest; told = ap is_some (sym seen) ∙ s.told },
-  )
-
-  -- so does a write behind such a call
+  -- a call that leaves told and honest alone, and a write behind it, keep a disk sound
   pub sound_written : (old mid new : D) → of.seen mid ≡ of.seen old → (of.honest mid ↔ of.honest old) → is_some (of.seen new) ≡ is_some (of.seen mid) → (of.honest new ↔ of.honest mid) → (IsSound of old ↔ IsSound of new)
   sound_written old mid new seen honest told again = (
     λ s. record { honest = again.1 (honest.1 s.honest); told = told ∙ ap is_some seen ∙ s.told },

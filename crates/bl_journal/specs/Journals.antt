@@ -2,8 +2,8 @@
 use Rattle.std.specs.Prelude.{◌≡◌, ◌⊎◌, ◌↔◌, ◌<◌, ◌≤◌, ◌+◌, ◌^◌, ℕ, true, is_some, IfSome, IfNone, List, [], ◌∷◌, ◌++◌, length, take, drop, None, Some, Result, Ok, Err, refl}
 use Rattle.std.specs.Coded.{Coded, code_by, coded×, coded_ℕ}
 use Rattle.std.specs.declared.option.Option.{Option}
+pub use Rattle.bl_outside.specs.Sound.{IsSound, IsSettled, Since}
 use Rattle.bl_outside.specs.Counts.{Rose}
-use Rattle.bl_outside.specs.Disks.{LeavesOnly, OnlySeen}
 use Rattle.bl_outside.specs.declared.disk.Disk.{Ghosts}
 use Rattle.bl_outside.specs.declared.journal_fault.JournalFault.{JournalFault}
 use Rattle.bl_outside.specs.declared.journal_fault.JournalFault.TheVariants.{StoreFault, NotAJournal, NoMemory}
@@ -16,20 +16,6 @@ pub record JournalRecord (D : Type 0) : Type 0 where
 
 abbrev pub journal_code : {D : Type 0} → Coded D → Coded (JournalRecord D)
 journal_code {D} code = code_by (D × ℕ) (coded× code coded_ℕ) (λ j. (j.disk, j.place)) (λ p. record { disk = p.0; place = p.1 }) (λ _. refl)
-
--- a disk that keeps the disk model and tells its content
-pub record IsSound {D : Type 0} (of : Ghosts D) (disk : D) : Type 0 where
-  pub honest : of.honest disk
-  pub told : is_some (of.seen disk) ≡ true
-
--- an honest disk with nothing pending: a crash now leaves what reads see
-pub record IsSettled {D : Type 0} (of : Ghosts D) (disk : D) : Type 0 where
-  pub honest : of.honest disk
-  pub only : OnlySeen (of.seen disk) (of.may_leave disk)
-
--- every image of every moment from the first disk to the second has P
-abbrev pub Since : {D : Type 0} → Ghosts D → D → D → (List ℕ → Type 0) → Type 0
-Since of old new P = LeavesOnly of.moment of.left_since old new P
 
 -- The frames up to the gate at a place are these, whatever stands from there on.
 pub record Reaches (content : List ℕ) (place : ℕ) (done : List (List ℕ)) : Type 0 where

@@ -1,5 +1,6 @@
 pub mod Finite
 pub mod Moments
+pub mod Told
 mod Kept
 pub mod Names
 mod Stopped

@@ -1,5 +1,23 @@
 -- What the calls of a folder answer.
-use Rattle.std.specs.Prelude.{◌≡◌, ◌≢◌, ◌↔◌, ℕ, ◌≤◌, ◌<◌, ◌^◌, List, [], ◌∷◌, ◌++◌, length, nat_eq, take, drop, None, Some, IsSome}
+use Rattle.std.specs.Prelude.{
+  ◌≡◌,
+  ◌≢◌,
+  ◌↔◌,
+  ℕ,
+  ◌≤◌,
+  ◌<◌,
+  List,
+  [],
+  ◌∷◌,
+  ◌++◌,
+  length,
+  nat_eq,
+  take,
+  drop,
+  None,
+  Some,
+  IsSome,
+}
 use Rattle.std.specs.declared.option.Option.{Option}
 use Rattle.std.specs.List.{All, Contains, IsDistinct}
 use Rattle.bl_outside.specs.Texts.{IsShortText}
@@ -30,7 +48,8 @@ abbrev pub Lists : Option Files → List ℕ → Listing → Type 0
 Lists None path _ = Unit {0}
 Lists (Some files) path OneFile = IsSome (get files path)
 Lists (Some files) path Missing = (get files path ≡ None) × ¬ (HasInside files path)
-Lists (Some files) path (Names names) = (get files path ≡ None) × HasInside files path × ((name : List ℕ) → Contains names name ↔ IsNameIn files path name)
+Lists (Some files) path (Names names) = (get files path ≡ None) × HasInside files path
+    × ((name : List ℕ) → Contains names name ↔ IsNameIn files path name)
 
 -- Each name can be a name, and they differ.
 pub record AreNames (names : List (List ℕ)) : Type 0 where
@@ -48,8 +67,10 @@ ListsNames (Names names) = AreNames names
 abbrev pub ReadsFile : Option Files → List ℕ → ℕ → Piece → Type 0
 ReadsFile None path at piece = Unit {0}
 ReadsFile (Some files) path at gone = get files path ≡ None
-ReadsFile (Some files) path at Ended = (bytes : List ℕ) × (get files path ≡ Some bytes) × (length bytes ≤ at)
-ReadsFile (Some files) path at (Bytes piece) = (bytes : List ℕ) × (get files path ≡ Some bytes) × (at < length bytes) × (piece ≡ take (length piece) (drop at bytes))
+ReadsFile (Some files) path at Ended = (bytes : List ℕ) × (get files path ≡ Some bytes)
+    × (length bytes ≤ at)
+ReadsFile (Some files) path at (Bytes piece) = (bytes : List ℕ) × (get files path ≡ Some bytes)
+    × (at < length bytes) × (piece ≡ take (length piece) (drop at bytes))
 
 -- A piece has a byte or more, and no more than were asked for.
 abbrev pub IsPiece : ℕ → Piece → Type 0

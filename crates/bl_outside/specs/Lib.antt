@@ -4,8 +4,13 @@ pub mod Texts
 pub mod Folders
 pub mod Disks
 pub mod Plans
+pub mod Clocks
+pub mod MemoryStreams
 pub mod MemoryFolders
 pub mod MemoryDisks
 pub mod MemoryLaws
 pub mod Stops
 pub mod OrderedSet
+pub mod Listeners
+pub mod MemoryListeners
+pub mod Sound

@@ -1,7 +1,30 @@
-ghost use Rattle.std.specs.Prelude.{◌≡◌, ◌↔◌, ◌≤◌, List, ℕ, length, take, drop, IfOk, OnOk, OnErr, is_some, Some};
+ghost use Rattle.std.specs.Prelude.{
+  ◌≡◌,
+  ◌↔◌,
+  ◌≤◌,
+  List,
+  ℕ,
+  length,
+  take,
+  drop,
+  IfOk,
+  OnOk,
+  OnErr,
+  is_some,
+  Some,
+};
 ghost use Rattle.std.specs.declared.option.Option.{Option};
 ghost use Rattle.bl_outside.specs.Counts.{HasDeviceCause};
-ghost use Rattle.bl_outside.specs.Disks.{overwritten, Torn, Follows, OnlySeen, StepsTold, OfContent, IsInside, Elapses};
+ghost use Rattle.bl_outside.specs.Disks.{
+  overwritten,
+  Torn,
+  Follows,
+  OnlySeen,
+  StepsTold,
+  OfContent,
+  IsInside,
+  Elapses,
+};
 
 use crate::{Outside, Text};
 
@@ -29,43 +52,58 @@ pub trait Disk {
         ensures size { IfOk result (OfContent (seen self.old) length) }
         ensures seen { seen self.new ≡ seen self.old }
         ensures honest { honest self.new ↔ honest self.old }
-        ensures crash { honest self.old → (c : List ℕ) → may_leave self.new c → may_leave self.old c }
-        ensures time { Elapses (moment self.old) (moment self.new) (left_since self.old) (left_since self.new) (may_leave self.new) }
+        ensures crash { honest self.old → (c : List ℕ) → may_leave self.new c
+            → may_leave self.old c }
+        ensures time { Elapses (moment self.old) (moment self.new) (left_since self.old)
+            (left_since self.new) (may_leave self.new) }
         ensures cause { HasDeviceCause (faults self.old) (faults self.new) result };
 
     fn read_at(&mut self, at: u64, most: u32) -> Result<Text, Outside>
-        ensures bytes { IfOk result (OfContent (seen self.old) (λ content. take most (drop at content))) }
+        ensures bytes { IfOk result (OfContent (seen self.old)
+            (λ content. take most (drop at content))) }
         ensures most { IfOk result (λ bytes. length bytes ≤ most) }
         ensures seen { seen self.new ≡ seen self.old }
         ensures honest { honest self.new ↔ honest self.old }
-        ensures crash { honest self.old → (c : List ℕ) → may_leave self.new c → may_leave self.old c }
-        ensures time { Elapses (moment self.old) (moment self.new) (left_since self.old) (left_since self.new) (may_leave self.new) }
+        ensures crash { honest self.old → (c : List ℕ) → may_leave self.new c
+            → may_leave self.old c }
+        ensures time { Elapses (moment self.old) (moment self.new) (left_since self.old)
+            (left_since self.new) (may_leave self.new) }
         ensures cause { HasDeviceCause (faults self.old) (faults self.new) result };
 
     fn write_at(&mut self, at: u64, bytes: &[u8]) -> Result<(), Outside>
         requires { honest self.old → IsInside (seen self.old) at }
-        ensures written { OnOk result (honest self.old → StepsTold (λ old new. new ≡ overwritten old at bytes.now) (seen self.old) (seen self.new)) }
-        ensures refused { OnErr result (honest self.old → StepsTold (Torn at (length bytes.now)) (seen self.old) (seen self.new)) }
+        ensures written { OnOk result (honest self.old → StepsTold
+            (λ old new. new ≡ overwritten old at bytes.now) (seen self.old) (seen self.new)) }
+        ensures refused { OnErr result (honest self.old
+            → StepsTold (Torn at (length bytes.now)) (seen self.old) (seen self.new)) }
         ensures told { is_some (seen self.new) ≡ is_some (seen self.old) }
         ensures honest { honest self.new ↔ honest self.old }
-        ensures crash { honest self.old → Follows (Torn at (length bytes.now)) (may_leave self.old) (may_leave self.new) }
-        ensures time { Elapses (moment self.old) (moment self.new) (left_since self.old) (left_since self.new) (may_leave self.new) }
+        ensures crash { honest self.old → Follows (Torn at (length bytes.now)) (may_leave self.old)
+            (may_leave self.new) }
+        ensures time { Elapses (moment self.old) (moment self.new) (left_since self.old)
+            (left_since self.new) (may_leave self.new) }
         ensures cause { HasDeviceCause (faults self.old) (faults self.new) result };
 
     fn sync(&mut self) -> Result<(), Outside>
-        ensures durable { OnOk result (honest self.old → OnlySeen (seen self.new) (may_leave self.new)) }
+        ensures durable { OnOk result (honest self.old → OnlySeen (seen self.new)
+            (may_leave self.new)) }
         ensures seen { seen self.new ≡ seen self.old }
         ensures honest { honest self.new ↔ honest self.old }
-        ensures crash { honest self.old → (c : List ℕ) → may_leave self.new c → may_leave self.old c }
-        ensures time { Elapses (moment self.old) (moment self.new) (left_since self.old) (left_since self.new) (may_leave self.new) }
+        ensures crash { honest self.old → (c : List ℕ) → may_leave self.new c
+            → may_leave self.old c }
+        ensures time { Elapses (moment self.old) (moment self.new) (left_since self.old)
+            (left_since self.new) (may_leave self.new) }
         ensures cause { HasDeviceCause (faults self.old) (faults self.new) result };
 
     /// This moment is one of those since an earlier one.
-    ghost counts_now: { (disk : Self) (t : ℕ) (c : List ℕ) → t ≤ moment disk → may_leave disk c → left_since disk t c };
+    ghost counts_now: { (disk : Self) (t : ℕ) (c : List ℕ) → t ≤ moment disk → may_leave disk c
+        → left_since disk t c };
 
     /// Since this moment there is no other.
-    ghost only_now: { (disk : Self) (c : List ℕ) → left_since disk (moment disk) c → may_leave disk c };
+    ghost only_now: { (disk : Self) (c : List ℕ) → left_since disk (moment disk) c
+        → may_leave disk c };
 
     /// A crash may leave what reads see.
-    ghost seen_is_image: { (disk : Self) (c : List ℕ) → honest disk → seen disk ≡ Some c → may_leave disk c };
+    ghost seen_is_image: { (disk : Self) (c : List ℕ) → honest disk → seen disk ≡ Some c
+        → may_leave disk c };
 }

@@ -1,10 +1,15 @@
 // Which calls of an object in memory fail.
-ghost use Rattle.std.specs.Prelude.{◌≡◌, ◌+◌, ◌^◌, ◌-◌, min, []};
-ghost use Rattle.bl_outside.specs.Plans.{is_due};
-ghost use Rattle.bl_outside.specs.Counts.{HasDeviceCause};
+ghost use Rattle.std.specs.Prelude.{◌≡◌, OnOk, IsErrOf};
+ghost use Rattle.bl_outside.specs.Plans.{called, is_due, no_faults, plan_of};
+ghost use Rattle.bl_outside.specs.Counts.{HasDeviceCause, one_more};
+ghost use Rattle.bl_outside.specs.declared.refusals.Outside.TheVariants.{
+  Failed as device_failed,
+  NoMemory as out_of_memory,
+};
 
 use crate::{List, Outside};
 use std::alloc::Global;
+use std::marker::Model;
 
 /// The calls of an object that are to fail, each by its number from 1.
 #[derive(Debug, Drop)]
@@ -17,10 +22,20 @@ pub struct Faults {
     from: u64,
 }
 
+impl Model for Faults {
+    ghost use Rattle.bl_outside.specs.Plans.{Plan, plan_code};
+
+    ghost Value = { Plan };
+
+    ghost coded = { plan_code };
+
+    ghost view = { λ f. record { calls = f.calls; fails = f.fails; from = f.from } };
+}
+
 impl Faults {
     /// No call fails.
     pub fn none(alloc: Global) -> Faults
-        ensures plan { (result.calls ≡ 0) × (result.fails ≡ []) × (result.from ≡ 0) }
+        ensures { result ≡ no_faults }
     {
         Faults {
             calls: 0,
@@ -31,7 +46,7 @@ impl Faults {
 
     /// The listed calls fail, and each from one on where that isn't 0.
     pub fn of(fails: List<u64>, from: u64) -> Faults
-        ensures plan { (result.calls ≡ 0) × (result.fails ≡ fails) × (result.from ≡ from) }
+        ensures { result ≡ plan_of fails from }
     {
         Faults {
             calls: 0,
@@ -42,9 +57,8 @@ impl Faults {
 
     /// Counts a call, and says whether it is to fail.
     pub fn next(&mut self) -> bool
-        ensures calls { self.new.calls ≡ min (self.old.calls + 1) (2 ^ 64 - 1) }
-        ensures plan { (self.new.fails ≡ self.old.fails) × (self.new.from ≡ self.old.from) }
-        ensures due { result ≡ is_due self.old.fails self.old.from self.new.calls }
+        ensures called { self.new ≡ called self.old }
+        ensures due { result ≡ is_due (called self.old) }
     {
         self.calls = self.calls.saturating_add(1);
         self.fails.as_slice().contains(&self.calls) || (self.from > 0 && self.calls >= self.from)
@@ -55,6 +69,9 @@ impl Faults {
 pub fn counted<T>(faults: &mut u64, answer: Result<T, Outside>) -> Result<T, Outside>
     ensures same { result ≡ answer }
     ensures cause { HasDeviceCause faults.old faults.new result }
+    ensures failed { IsErrOf result device_failed → faults.new ≡ one_more faults.old }
+    ensures ok { OnOk result (faults.new ≡ faults.old) }
+    ensures memory { IsErrOf result out_of_memory → faults.new ≡ faults.old }
 {
     if let Err(Outside::Failed) = &answer {
         *faults = faults.saturating_add(1);

@@ -2,17 +2,26 @@
 ghost use Rattle.std.specs.Prelude.{◌≡◌, Some};
 
 use crate::Clock;
+use std::marker::Model;
 
 /// Always the same moment.
-#[derive(Clone, Copy, Debug, PartialEq, Eq)]
+#[derive(Drop)]
 pub struct FixedClock {
     value: u64,
     readings: u64,
 }
 
+impl Model for FixedClock {
+    ghost use Rattle.bl_outside.specs.Clocks.{Standing};
+
+    ghost Value = { Standing };
+
+    ghost view = { λ c. record { value = c.value; readings = c.readings } };
+}
+
 impl FixedClock {
     pub fn new(value: u64) -> FixedClock
-        ensures { (result.value ≡ value) × (result.readings ≡ 0) }
+        ensures { result ≡ record { value = value; readings = 0 } }
     {
         FixedClock { value, readings: 0 }
     }

@@ -18,8 +18,14 @@ pub enum JournalFault {
 
 impl From<Outside> for JournalFault {
     ghost use Rattle.std.specs.Prelude.{◌≡◌};
-    ghost use Rattle.bl_outside.specs.declared.refusals.Outside.TheVariants.{Failed as device_failed, NoMemory as out_of_memory};
-    ghost use Rattle.bl_outside.specs.declared.journal_fault.JournalFault.TheVariants.{StoreFault, NoMemory};
+    ghost use Rattle.bl_outside.specs.declared.refusals.Outside.TheVariants.{
+      Failed as device_failed,
+      NoMemory as out_of_memory,
+    };
+    ghost use Rattle.bl_outside.specs.declared.journal_fault.JournalFault.TheVariants.{
+      StoreFault,
+      NoMemory,
+    };
 
     ghost from_gives = { λ refusal fault. (refusal ≡ device_failed → fault ≡ StoreFault)
         × (refusal ≡ out_of_memory → fault ≡ NoMemory) };

@@ -1,7 +1,7 @@
 // Sources, sinks and clocks.
 ghost use Rattle.std.specs.Prelude.{◌≡◌, ◌<◌, ◌≤◌, List, ℕ, length, IfOk, IfSome};
 ghost use Rattle.std.specs.declared.option.Option.{Option};
-ghost use Rattle.bl_outside.specs.Counts.{HasCause, Rose};
+ghost use Rattle.bl_outside.specs.Counts.{HasCause, one_more};
 ghost use Rattle.bl_outside.specs.Streams.{Takes, Puts};
 
 use crate::Failed;
@@ -57,7 +57,7 @@ pub trait Clock {
 
     fn now(&mut self) -> u64
         ensures value { result ≡ last self.new }
-        ensures counted { Rose (readings self.old) (readings self.new) }
+        ensures counted { readings self.new ≡ one_more (readings self.old) }
         ensures fixed { fixed self.new ≡ fixed self.old }
         ensures always { IfSome (fixed self.old) (λ value. result ≡ value) };
 }

@@ -17,7 +17,7 @@ use Rattle.bl_value.specs.declared.cell.CellRefusal.{CellRefusal}
 use Rattle.bl_value.specs.declared.cell.CellRefusal.TheVariants.{NotUtf8, NotOfType, OutOfRange, NoMemory}
 use Rattle.bl_value.specs.declared.column.Column.{Column}
 use Rattle.bl_rows.specs.Rows.{property_items}
-use Rattle.bl_rows.proofs.ItemTexts.{items_are_utf8}
+use Rattle.bl_value.proofs.ItemTexts.{items_are_utf8}
 
 -- a value, or a refusal that is about the type
 abbrev pub IsTyped : {A : Type 0} → Result A CellRefusal → Type 0

@@ -3,16 +3,15 @@ pub mod Readers
 pub mod RowReaders
 pub mod Texts
 pub mod TrimmedTexts
-pub mod ItemTexts
 pub mod CellValues
 pub mod FirstCells
 pub mod RowFaults
-pub mod Distinct
 pub mod SystemCells
 pub mod ValidProperties
 pub mod RowValid
 pub mod OneColumn
-pub mod SeenLabels
+mod GatheredCells
+mod LabelItems
 pub mod ShortLabels
 pub mod RecordRows
 pub mod RowsLeft

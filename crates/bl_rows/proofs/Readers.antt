@@ -1,6 +1,7 @@
 -- What a reader of records has left, before and after one of them.
-use Rattle.std.proofs.Common.{◌≡◌, ◌∙◌, ◌<◌, ◌≤◌, ◌+◌, ◌^◌, ℕ, Bool, true, false, cond, Option, None, Some, List, [], ◌∷◌, length, sum_by, refl, sym, ap, subst, inl, inr, arith}
+use Rattle.std.proofs.Common.{◌≡◌, ◌∙◌, ◌<◌, ◌≤◌, ◌+◌, ◌^◌, ℕ, Bool, true, false, not, cond, Option, None, Some, List, [], ◌∷◌, length, sum_by, refl, sym, ap, subst, inl, inr, arith}
 use Rattle.std.specs.List.{All}
+use Rattle.std.proofs.lemmas.Bool.{not-false, not-true}
 use Rattle.std.proofs.lemmas.List.Elements.{All-from_get_or}
 use Rattle.std.proofs.lemmas.List.Sums.{get_or-le-sum_by}
 use Rattle.csv.specs.Machine.{Read, next_record}
@@ -9,8 +10,8 @@ use Rattle.csv.specs.declared.parser.State.{State}
 use Rattle.csv.specs.declared.parser.State.TheVariants.{StartRecord}
 use Rattle.bl_rows.specs.Contents.{Fields, IsShort, contents}
 use Rattle.bl_rows.specs.File.{IsSmall}
-use Rattle.bl_rows.specs.RecordReaders.{GivesNext, HasLeft, HasLeftBy, Held, Takes, TakesNext, records_after}
-use Rattle.bl_rows.specs.declared.records.RecordReader.{RecordReader}
+use Rattle.bl_rows.specs.RecordReaders.{GivesNext, HasLeftBy, Held, IsSound, IsSoundUnless, Takes, TakesNext, left_unless, records_after, records_left, rows_in, rows_left}
+use Rattle.bl_rows.specs.declared.records.RecordReader.TheInside.{Inside}
 use Rattle.bl_rows.proofs.CsvRecords.{all-first, few-records, record-shrinks, record-sized}
 
 -- a file without its mark is no larger
@@ -57,21 +58,41 @@ none_left : (next : Option Read) (found : Bool) (row : Fields) (reader : Held) �
 none_left None found row reader took none = refl
 none_left (Some next) found row reader took none = cc (took.0, none)
 
+-- what a sound reader has left, it has left by its state
+known_by : (lost ended : Bool) (reader : Held) (rows : List Fields) → lost ≡ false → IsSoundUnless lost ended reader → left_unless lost (rows_left ended reader) ≡ Some rows
+    → HasLeftBy ended reader rows
+known_by true ended reader rows is sound left = absurd cc
+known_by false ended reader rows is sound left =
+    let same : rows_left ended reader ≡ rows = cc in
+    subst (HasLeftBy ended reader) same sound
+
+known : (it : Inside) (rows : List Fields) → it.lost ≡ false → IsSound it → records_left it ≡ Some rows → HasLeftBy it.ended it.reader rows
+known it rows is sound left = known_by it.lost it.ended it.reader rows is sound left
+
+-- and the other way round
+rows_by : (ended : Bool) (reader : Held) (rows : List Fields) → HasLeftBy ended reader rows → rows_left ended reader ≡ rows
+rows_by true reader rows has = sym has
+rows_by false reader rows (state, left, stands, is, small) = (λ i. rows_in (stands.left_is i) (stands.state_is i)) ∙ sym is
+
+pub sound_by : (ended : Bool) (reader : Held) (rows : List Fields) → HasLeftBy ended reader rows → HasLeftBy ended reader (rows_left ended reader)
+sound_by ended reader rows has = subst (HasLeftBy ended reader) (sym (rows_by ended reader rows has)) has
+
+pub left_by : (ended : Bool) (reader : Held) (rows : List Fields) → HasLeftBy ended reader rows → Some (rows_left ended reader) ≡ Some rows
+left_by ended reader rows has = ap Some (rows_by ended reader rows has)
+
 -- a reader that has ended has none left
-pub gives-ended : (it : RecordReader) (rows : List Fields) → it.ended ≡ true → HasLeft it rows → GivesNext rows it None
-unfolding HasLeft
-gives-ended it rows ended has =
-    let empty = rw ended at has in
-    subst (λ rs. GivesNext rs it None) (sym empty) (refl, rw ended refl)
+pub gives-ended : (it : Inside) (rows : List Fields) → it.lost ≡ false → it.ended ≡ true → IsSound it → records_left it ≡ Some rows → GivesNext rows (records_left it) None
+gives-ended it rows kept ended sound left =
+    let empty : rows ≡ [] = rw ended at (known it rows kept sound left) in
+    subst (λ rs. GivesNext rs (records_left it) None) (sym empty) (refl, left ∙ ap Some empty)
 
 -- a reader that found no record had none left
-pub gives-none : (it after : RecordReader) (rows : List Fields) (found : Bool) (row : Fields) → it.ended ≡ false → HasLeft it rows
-    → TakesNext it.reader found row after.reader → found ≡ false → after.ended ≡ true → GivesNext rows after None
-unfolding HasLeft
-gives-none it after rows found row open_still has reads none ended =
-    let (state, left, stands, is, small) = rw open_still at has in
-    let empty : rows ≡ [] = is ∙ after-first state left ∙ none_left _ found row after.reader (reads state left stands) none in
-    subst (λ rs. GivesNext rs after None) (sym empty) (refl, rw ended refl)
+pub gives-none : (it : Inside) (rows : List Fields) (found : Bool) (row : Fields) (reader : Held) → it.lost ≡ false → it.ended ≡ false → IsSound it → records_left it ≡ Some rows
+    → TakesNext it.reader found row reader → not found ≡ true → GivesNext rows (Some (rows_left (not found) reader)) None
+gives-none it rows found row reader kept open_still sound left reads none =
+    let (state, bytes, stands, is, small) = rw open_still at (known it rows kept sound left) in
+    let empty : rows ≡ [] = is ∙ after-first state bytes ∙ none_left _ found row reader (reads state bytes stands) (not-true found none) in
+    subst (λ rs. GivesNext rs (Some (rows_left (not found) reader)) None) (sym empty) (refl, ap (λ ended. Some (rows_left ended reader)) none)
 
 others_left : (state : State) (left : List ℕ) (next : Option Read) (found : Bool) (row : Fields) (reader : Held) → IsSmall left
     → next_record default_config state [] [] left ≡ next → Takes next found row reader → found ≡ true
@@ -81,11 +102,30 @@ others_left state left (Some next) found row reader small is took some =
     let (short, rest_small) = next-short state left next small is in
     (records_after next.1 next.2, rw took.1 refl, (next.1, next.2, took.2, refl, rest_small), rw took.1 short)
 
+-- what is left behind a record that was found
+record Behind (reader : Held) (ended : Bool) (rows : List Fields) (row : Fields) : Type 0 where
+  rest : List Fields
+  is : rows ≡ row ∷ rest
+  has : HasLeftBy ended reader rest
+  short : IsShort row
+
+behind : (it : Inside) (rows : List Fields) (found : Bool) (row : Fields) (reader : Held) → it.lost ≡ false → it.ended ≡ false → IsSound it → records_left it ≡ Some rows
+    → TakesNext it.reader found row reader → not found ≡ false → Behind reader (not found) rows row
+behind it rows found row reader kept open_still sound left reads some =
+    let (state, bytes, stands, is, small) = rw open_still at (known it rows kept sound left) in
+    let (rest, first, has_rest, short) = others_left state bytes _ found row reader small refl (reads state bytes stands) (not-false found some) in
+    record { rest = rest; is = is ∙ after-first state bytes ∙ first; has = subst (λ ended. HasLeftBy ended reader rest) (sym some) has_rest; short = short }
+
 -- a reader that found a record has the others left
-pub gives-some : (it after : RecordReader) (rows : List Fields) (found : Bool) (row fields : Fields) → it.ended ≡ false → HasLeft it rows
-    → TakesNext it.reader found row after.reader → found ≡ true → after.ended ≡ false → fields ≡ row → GivesNext rows after (Some fields)
-unfolding HasLeft
-gives-some it after rows found row fields open_still has reads some open_after same =
-    let (state, left, stands, is, small) = rw open_still at has in
-    let (rest, first, has_rest, short) = others_left state left _ found row after.reader small refl (reads state left stands) some in
-    subst (λ rs. GivesNext rs after (Some fields)) (sym (is ∙ after-first state left ∙ first)) (ap Some same, rw open_after has_rest, short)
+pub gives-some : (it : Inside) (rows : List Fields) (found : Bool) (row fields : Fields) (reader : Held) → it.lost ≡ false → it.ended ≡ false → IsSound it → records_left it ≡ Some rows
+    → TakesNext it.reader found row reader → not found ≡ false → fields ≡ row → GivesNext rows (Some (rows_left (not found) reader)) (Some fields)
+gives-some it rows found row fields reader kept open_still sound left reads some same =
+    let rest = behind it rows found row reader kept open_still sound left reads some in
+    subst (λ rs. GivesNext rs (Some (rows_left (not found) reader)) (Some fields)) (sym rest.is) (ap Some same, left_by (not found) reader rest.rest rest.has, rest.short)
+
+-- and is sound
+pub sound-some : (it : Inside) (found : Bool) (row : Fields) (reader : Held) → it.lost ≡ false → it.ended ≡ false → IsSound it
+    → TakesNext it.reader found row reader → not found ≡ false → HasLeftBy (not found) reader (rows_left (not found) reader)
+sound-some it found row reader kept open_still sound reads some =
+    let rest = behind it (rows_left it.ended it.reader) found row reader kept open_still sound (ap (λ lost. left_unless lost (rows_left it.ended it.reader)) kept) reads some in
+    sound_by (not found) reader rest.rest rest.has

@@ -20,8 +20,8 @@ unfolding digest_after
 digest-more all taken = rw (add-one taken) refl
 
 -- a reader that finds no record had none left
-pub gives-no-row : (it after : RowReader) (all : List Fields) (taken : ℕ) (left : List Fields) → Stands it all taken left → GivesNext left after.records None
-    → after.header ≡ it.header → after.empty ≡ it.empty → after.taken ≡ it.taken → after.digest ≡ it.digest → GivesRow all taken left after None
+pub gives-no-row : (it after : RowReader) (all : List Fields) (taken : ℕ) (left : List Fields) → Stands it all taken left → GivesNext left after.left None
+    → after.header ≡ it.header → after.is_empty ≡ it.is_empty → after.taken ≡ it.taken → after.digest ≡ it.digest → GivesRow all taken left after None
 gives-no-row it after all taken [] stands gives header empty count digest = (
   refl,
   record {
@@ -29,7 +29,7 @@ gives-no-row it after all taken [] stands gives header empty count digest = (
     header_short = stands.header_short;
     empty_is = empty ∙ stands.empty_is;
     count_is = count ∙ stands.count_is;
-    digest_is = ap (λ d. d.bytes) digest ∙ stands.digest_is;
+    digest_is = digest ∙ stands.digest_is;
     left_is = stands.left_is;
     has_left = gives.1;
     few = stands.few;
@@ -38,9 +38,9 @@ gives-no-row it after all taken [] stands gives header empty count digest = (
 gives-no-row it after all taken (row ∷ left) stands gives header empty count digest = cc gives.0
 
 -- a reader that finds a record has the others left
-pub gives-row : (it after : RowReader) (all : List Fields) (taken : ℕ) (left : List Fields) (fields : Fields) → Stands it all taken left → GivesNext left after.records (Some fields)
-    → after.header ≡ it.header → after.empty ≡ it.empty → after.taken ≡ min (it.taken + 1) (2 ^ 64 - 1)
-    → after.digest.bytes ≡ sha256 (it.digest.bytes ++ record_text fields) → GivesRow all taken left after (Some fields)
+pub gives-row : (it after : RowReader) (all : List Fields) (taken : ℕ) (left : List Fields) (fields : Fields) → Stands it all taken left → GivesNext left after.left (Some fields)
+    → after.header ≡ it.header → after.is_empty ≡ it.is_empty → after.taken ≡ min (it.taken + 1) (2 ^ 64 - 1)
+    → after.digest ≡ sha256 (it.digest ++ record_text fields) → GivesRow all taken left after (Some fields)
 gives-row it after all taken [] fields stands gives header empty count digest = cc gives.0
 gives-row it after all taken (row ∷ left) fields stands gives header empty count digest =
     let (within, first, rest) = first-left all (taken + 1) row left stands.left_is in
@@ -60,8 +60,8 @@ gives-row it after all taken (row ∷ left) fields stands gives header empty cou
     )
 
 -- a reader of a file without a record
-pub starts-empty : (it : RowReader) (all : List Fields) → GivesNext all it.records None → length all ≤ 268435457
-    → it.header ≡ [] → it.empty ≡ true → it.taken ≡ 0 → it.digest.bytes ≡ sha256 [] → Stands it all 0 (rows_of all)
+pub starts-empty : (it : RowReader) (all : List Fields) → GivesNext all it.left None → length all ≤ 268435457
+    → it.header ≡ [] → it.is_empty ≡ true → it.taken ≡ 0 → it.digest ≡ sha256 [] → Stands it all 0 (rows_of all)
 unfolding digest_after
 starts-empty it [] gives few header empty count digest =
     record {
@@ -77,8 +77,8 @@ starts-empty it [] gives few header empty count digest =
 starts-empty it (first ∷ rows) gives few header empty count digest = cc gives.0
 
 -- a reader behind the header
-pub starts-behind : (it : RowReader) (all : List Fields) (fields : Fields) → GivesNext all it.records (Some fields) → length all ≤ 268435457
-    → it.header ≡ fields → it.empty ≡ false → it.taken ≡ 0 → it.digest.bytes ≡ sha256 (record_text fields) → Stands it all 0 (rows_of all)
+pub starts-behind : (it : RowReader) (all : List Fields) (fields : Fields) → GivesNext all it.left (Some fields) → length all ≤ 268435457
+    → it.header ≡ fields → it.is_empty ≡ false → it.taken ≡ 0 → it.digest ≡ sha256 (record_text fields) → Stands it all 0 (rows_of all)
 unfolding digest_after
 starts-behind it [] fields gives few header empty count digest = cc gives.0
 starts-behind it (first ∷ rows) fields gives few header empty count digest =

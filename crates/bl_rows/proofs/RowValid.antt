@@ -9,13 +9,13 @@ use Rattle.bl_value.specs.declared.column.ColumnUse.{ColumnUse}
 use Rattle.bl_value.specs.declared.column.ColumnUse.TheVariants.{Id, Label, From, To, Property}
 use Rattle.bl_value.specs.declared.row.Row.{Row}
 use Rattle.bl_rows.specs.Contents.{Fields}
-use Rattle.bl_rows.specs.FirstFaults.{row_by, told}
+use Rattle.bl_rows.specs.FirstFaults.{row_by, told, values_in_all}
 use Rattle.bl_rows.specs.Rows.{is_from_use, is_id_use, is_key_use, is_label_use, is_to_use, label_count, properties_of, system_cell, value_count}
 use Rattle.bl_value.specs.ValidColumns.{HasEnds, IsColumnUse, IsColumns}
 use Rattle.bl_value.specs.ValidRows.{HasValues, IsRow}
 use Rattle.bl_rows.proofs.RowFaults.{KeptBelow, all_kept}
 use Rattle.bl_rows.proofs.SystemCells.{edge_label_is, id_is, labels_are}
-use Rattle.bl_rows.proofs.ValidProperties.{properties_are, singles, values_in_all}
+use Rattle.bl_rows.proofs.ValidProperties.{properties_are, singles}
 
 id_keys : (side : Side) (other : ColumnUse) → is_id_use other ≡ true → is_key_use side other ≡ true
 id_keys side.Vertex Id is = refl

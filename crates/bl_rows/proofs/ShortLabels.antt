@@ -1,13 +1,14 @@
 -- No label is longer than its cell.
-use Rattle.std.specs.Prelude.{◌≡◌, ◌==◌, ◌+◌, ◌≤◌, ℕ, Bool, true, false, not, ◌&&◌, cond, List, [], ◌∷◌, ◌++◌, length, map, reverse, refl}
+use Rattle.std.specs.Prelude.{◌≡◌, nat_eq, ◌==◌, ◌+◌, ◌≤◌, ℕ, Bool, true, false, not, ◌&&◌, cond, List, [], ◌∷◌, ◌++◌, length, map, reverse, refl}
 use Rattle.std.specs.List.{All, list_all}
+use Rattle.std.specs.Cmp.Lexicographic.{pointwise}
 use Rattle.std.proofs.Common.{ap, arith, le-leb}
 use Rattle.std.proofs.lemmas.List.{length-append, length-reverse}
 use Rattle.std.proofs.lemmas.List.Elements.{All-nil, All-cons, All-filter, All-head, All-map, All-tail, All-weaker}
 use Rattle.bl_value.specs.Cells.{items, items_from, pieces_from, without_spaces, without_spaces_in_front}
 use Rattle.bl_value.specs.declared.column.Side.TheVariants as side
 use Rattle.bl_rows.specs.Rows.{is_long_label, is_short, labels_in}
-use Rattle.bl_rows.proofs.Distinct.{each_once_text}
+use Rattle.bl_value.proofs.Repeats.{all_once}
 
 abbrev with_held : Bool → List ℕ → List ℕ
 with_held held bytes = cond held (92 ∷ bytes) bytes
@@ -57,7 +58,7 @@ all_short (label ∷ labels) all =
 pub short_cell : (label_cell : List ℕ) → length label_cell ≤ 1024 → is_long_label side.Vertex label_cell ≡ false
 short_cell label_cell short =
     ap not (all_short (labels_in label_cell)
-    (each_once_text (IsWithin 1024) [] _ (All-filter (λ label. not (length label == 0)) (IsWithin 1024) (map without_spaces (items label_cell))
+    (all_once (IsWithin 1024) (pointwise nat_eq) [] _ (All-filter (λ label. not (length label == 0)) (IsWithin 1024) (map without_spaces (items label_cell))
     (All-map (IsWithin 1024) without_spaces (items label_cell)
     (All-weaker (IsWithin 1024) (λ item. IsWithin 1024 (without_spaces item)) (λ item within. omega (arith, within, spaces_within item)) (items label_cell)
     (items_within 1024 false [] label_cell (omega (arith, short))))))))

@@ -1,7 +1,9 @@
 -- The ids and labels of a record without a fault are valid.
-use Rattle.std.specs.Prelude.{◌≡◌, ◌⊎◌, ◌==◌, ◌<◌, ◌≤◌, ℕ, zero, suc, Bool, true, false, not, ◌&&◌, cond, codes, List, [], ◌∷◌, length, filter, map, slice_get, None, Some, refl}
+use Rattle.std.specs.Prelude.{◌≡◌, nat_eq, ◌⊎◌, ◌==◌, ◌<◌, ◌≤◌, ℕ, zero, suc, Bool, true, false, not, ◌&&◌, cond, codes, List, [], ◌∷◌, length, filter, map, slice_get, None, Some, refl}
 use Rattle.std.specs.List.{All, Contains, list_all}
 use Rattle.std.specs.Str.{IsUtf8}
+use Rattle.std.specs.Cmp.Lexicographic.{pointwise}
+use Rattle.std.proofs.lemmas.Cmp.{nat_list_eq_equiv}
 use Rattle.std.proofs.Common.{◌∙◌, sym, ap, subst, arith, inl, inr, eqb-true, leb-true}
 use Rattle.std.proofs.lemmas.Option.{slice_get-get_or}
 use Rattle.std.proofs.lemmas.Str.{IsUtf8-from_ascii}
@@ -20,9 +22,9 @@ use Rattle.bl_rows.specs.Contents.{Fields}
 use Rattle.bl_rows.specs.FirstFaults.{long_code, missing_code}
 use Rattle.bl_rows.specs.Rows.{edge_label, is_key_use, is_label_use, is_long, is_long_label, is_missing, is_short, labels_in, system_cell}
 use Rattle.bl_value.specs.ValidRows.{AreLabels}
-use Rattle.bl_rows.proofs.Distinct.{each_once_text, no_texts_apart, texts_apart}
 use Rattle.bl_rows.proofs.FirstCells.{silent}
-use Rattle.bl_rows.proofs.ItemTexts.{items_are_utf8}
+use Rattle.bl_value.proofs.ItemTexts.{items_are_utf8}
+use Rattle.bl_value.proofs.Repeats.{all_once, none_apart, once_apart}
 use Rattle.bl_rows.proofs.RowFaults.{KeptBelow, text_at}
 use Rattle.bl_rows.proofs.Texts.{texts_of}
 use Rattle.bl_rows.proofs.TrimmedTexts.{utf8_without_spaces}
@@ -183,7 +185,7 @@ some_each (text ∷ texts) all = by (length text == 0) refl (some_each texts (Al
 
 labels_some : (label_cell : List ℕ) → IsUtf8 label_cell → All IsSomeText (labels_in label_cell)
 labels_some label_cell text =
-    each_once_text IsSomeText [] _ (some_each (map without_spaces (items label_cell))
+    all_once IsSomeText (pointwise nat_eq) [] _ (some_each (map without_spaces (items label_cell))
     (All-map IsUtf8 without_spaces (items label_cell) (All-weaker IsUtf8 (λ item. IsUtf8 (without_spaces item)) utf8_without_spaces (items label_cell) (items_are_utf8 label_cell text))))
 
 all_both : (P Q R : List ℕ → Type 0) → ((x : List ℕ) → P x → Q x → R x) → (xs : List (List ℕ)) → All P xs → All Q xs → All R xs
@@ -203,5 +205,5 @@ labels_are columns fields kept vertex few =
     record {
       each = labels_by cell (subst (λ s. (cell ≡ []) ⊎ (IsUtf8 cell × (is_long_label s cell ≡ false))) vertex (label_facts columns fields kept));
       few = omega (arith, few);
-      differ = texts_apart [] _ no_texts_apart;
+      differ = once_apart (pointwise nat_eq) nat_list_eq_equiv [] _ (none_apart (pointwise nat_eq));
     }

@@ -19,18 +19,16 @@ use Rattle.bl_value.specs.declared.column.ColumnUse.{ColumnUse}
 use Rattle.bl_value.specs.declared.column.ColumnUse.TheVariants.{Id, Label, From, To, Property}
 use Rattle.bl_value.specs.declared.row.Property.{Property as RowProperty}
 use Rattle.bl_rows.specs.Contents.{Fields}
+use Rattle.bl_rows.specs.FirstFaults.{values_in_all}
 use Rattle.bl_rows.specs.Rows.{properties_from, property_in, values_in, values_or_none}
 use Rattle.bl_value.specs.ValidColumns.{IsColumn, IsColumnUse, is_same_use}
 use Rattle.bl_value.specs.ValidRows.{AreApart, AreProperties, HasValues, IsProperty}
-use Rattle.bl_rows.proofs.Distinct.{no_values_apart, values_apart}
-
--- the values of properties, counted together
-abbrev pub values_in_all : List RowProperty → ℕ
-values_in_all properties = sum_by (λ property. length property.values) properties
+use Rattle.bl_value.proofs.OnceValues.{values_apart}
+use Rattle.bl_value.proofs.Repeats.{none_apart}
 
 apart_by : (found : Result (List Value) CellRefusal) → IsDistinct (eq_by_cmp value_cmp) (values_or_none (each_once found))
-apart_by (Ok all) = values_apart [] all no_values_apart
-apart_by (Err refused) = no_values_apart
+apart_by (Ok all) = values_apart all
+apart_by (Err refused) = none_apart (eq_by_cmp value_cmp)
 
 -- a cell that isn't an array has one value at most
 one_by : (test : Bool) (found : Result Value CellRefusal) → length (values_or_none (each_once (cond test (Ok []) (one_value found)))) ≤ 1

@@ -10,15 +10,18 @@ use Rattle.bl_rows.specs.declared.file.FileRefusal.{FileRefusal}
 use Rattle.bl_rows.specs.declared.file.FileRefusal.TheVariants.{Missing, TooLarge, ReadFault, NoMemory}
 
 -- the most bytes that a file may have
+abbrev pub file_limit : ℕ
+file_limit = 268435456
+
 abbrev pub IsSmall : List ℕ → Type 0
-IsSmall bytes = length bytes ≤ 268435456
+IsSmall bytes = length bytes ≤ file_limit
 
 -- The answer for the file at the path, where the files are told.
 abbrev pub ReadsWhole : Option Files → List ℕ → Result FileBytes FileRefusal → Type 0
 ReadsWhole None path _ = Unit {0}
 ReadsWhole (Some files) path (Ok file) = get files path ≡ Some file.bytes
 ReadsWhole (Some files) path (Err Missing) = get files path ≡ None
-ReadsWhole (Some files) path (Err TooLarge) = (bytes : List ℕ) × (get files path ≡ Some bytes) × (268435456 < length bytes)
+ReadsWhole (Some files) path (Err TooLarge) = (bytes : List ℕ) × (get files path ≡ Some bytes) × (file_limit < length bytes)
 ReadsWhole (Some files) path (Err ReadFault) = Unit {0}
 ReadsWhole (Some files) path (Err NoMemory) = Unit {0}
 

@@ -19,9 +19,7 @@ use Rattle.bl_rows.specs.Contents.{Fields}
 use Rattle.bl_value.specs.declared.row.Property.{Property as RowProperty}
 use Rattle.bl_value.specs.declared.row.Row.{Row}
 use Rattle.bl_value.specs.declared.row.Row.TheVariants.{Vertex, Edge, Bad}
-use Rattle.bl_rows.specs.Rows.{IsRowOf, edge_label, is_from_use, is_id_use, is_label_use, is_long, is_missing, is_to_use, labels_in, properties_of, system_cell, value_count}
-use Rattle.bl_rows.specs.declared.system_cells.SystemColumn.{SystemColumn}
-use Rattle.bl_rows.specs.declared.system_cells.SystemColumn.TheVariants as system
+use Rattle.bl_rows.specs.Rows.{IsRowOf, edge_label, is_from_use, is_id_use, is_label_use, is_long, is_missing, is_to_use, labels_in, properties_of, record_limit, system_cell, value_count, value_limit}
 use Rattle.bl_rows.specs.declared.refused.Refused.{Refused}
 use Rattle.bl_rows.specs.declared.refused.Refused.TheVariants.{Fault, NoMemory}
 
@@ -56,18 +54,22 @@ abbrev pub refused_code : ColumnUse → List ℕ → Option LogCode
 refused_code (Property column) bytes = value_code (values_of column.kind column.many bytes)
 refused_code _ bytes = None
 
--- the fields have at most 1,048,576 bytes together
+-- the fields haven't too many bytes together
 abbrev pub are_small : Fields → Bool
-are_small fields = nat_le (sum_by length fields) 1048576
+are_small fields = nat_le (sum_by length fields) record_limit
 
 abbrev pub whole_code : Columns → Fields → Option LogCode
 whole_code columns fields =
     if length fields == length columns.uses then (if list_all is_utf8 fields then (if are_small fields then None else Some RecordTooLarge) else Some NotUtf8)
     else Some ColumnCount
 
+-- the values of properties, together
+abbrev pub values_in_all : List RowProperty → ℕ
+values_in_all properties = sum_by (λ property. length property.values) properties
+
 -- so many labels and values
 abbrev pub many_told : ℕ → Option Told
-many_told count = if nat_le count 4096 then None else Some (TooManyValues, 0)
+many_told count = if nat_le count value_limit then None else Some (TooManyValues, 0)
 
 abbrev pub first_of : Option Told → Option Told → Option Told
 first_of (Some told) others = Some told
@@ -83,13 +85,6 @@ cells_told columns fields =
 -- what all rules tell
 abbrev pub told : Columns → Fields → Option Told
 told columns fields = first_of (cells_told columns fields) (many_told (value_count columns fields))
-
--- a column is the one that is looked for
-abbrev pub wanted : SystemColumn → ColumnUse → Bool
-wanted system.Id role = is_id_use role
-wanted system.Label role = is_label_use role
-wanted system.From role = is_from_use role
-wanted system.To role = is_to_use role
 
 -- the row of a record without a fault
 abbrev pub row_by : Side → List ColumnUse → Fields → List RowProperty → Row

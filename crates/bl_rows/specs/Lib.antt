@@ -2,7 +2,8 @@ pub mod File
 pub mod Contents
 pub mod Digests
 pub mod RecordReaders
+pub mod Readings
 pub mod RowReaders
 pub mod Rows
 pub mod FirstFaults
-pub mod Labels
+pub mod SystemCells

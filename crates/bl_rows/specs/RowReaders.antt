@@ -1,6 +1,7 @@
 -- Where a reader of rows stands.
 use Rattle.std.specs.Prelude.{◌≡◌, ◌≤◌, ◌+◌, ℕ, List, [], ◌∷◌, drop, length, Option, Some, None}
 use Rattle.bl_rows.specs.Contents.{Fields, IsShort, has_no_record, header_of}
+use Rattle.bl_rows.specs.File.{file_limit}
 use Rattle.bl_rows.specs.Digests.{digest_after}
 use Rattle.bl_rows.specs.RecordReaders.{HasLeft}
 use Rattle.bl_rows.specs.declared.row_reader.RowReader.{RowReader}
@@ -10,12 +11,12 @@ use Rattle.bl_rows.specs.declared.row_reader.RowReader.{RowReader}
 pub record Stands (reader : RowReader) (all : List Fields) (taken : ℕ) (left : List Fields) : Type 0 where
   pub header_is : reader.header ≡ header_of all
   pub header_short : IsShort (header_of all)
-  pub empty_is : reader.empty ≡ has_no_record all
+  pub empty_is : reader.is_empty ≡ has_no_record all
   pub count_is : reader.taken ≡ taken
-  pub digest_is : reader.digest.bytes ≡ digest_after all taken
+  pub digest_is : reader.digest ≡ digest_after all taken
   pub left_is : left ≡ drop (taken + 1) all
-  pub has_left : HasLeft reader.records left
-  pub few : length all ≤ 268435457
+  pub has_left : HasLeft reader.left left
+  pub few : length all ≤ file_limit + 1
 
 -- The answer of a reader that stood so: the first record that is left, or none where none is.
 abbrev pub GivesRow : List Fields → ℕ → List Fields → RowReader → Option Fields → Type 0

@@ -2,9 +2,11 @@
 -- the set of its faults, and its row where it has none.
 use Rattle.std.specs.Prelude.{◌≡◌, ◌⊎◌, ℕ, ◌==◌, ◌+◌, ◌<◌, nat_le, nat_eq, Bool, true, false, not, ◌&&◌, if◌then◌else◌, codes, List, [], ◌∷◌, ◌++◌, length, map, filter, sum_by, slice_get, Some, Ok, Err}
 use Rattle.std.specs.declared.result.Result.{Result}
-use Rattle.std.specs.List.{list_all, list_any}
+use Rattle.std.specs.List.{list_all}
 use Rattle.std.specs.Str.{is_utf8}
 use Rattle.std.specs.Cmp.Lexicographic.{pointwise}
+use Rattle.bl_value.specs.Once.{once_behind}
+use Rattle.bl_value.specs.Valid.{id_limit}
 use Rattle.bl_value.specs.Cells.{items, values_in as values_of_item, values_of, without_spaces}
 use Rattle.bl_value.specs.declared.value.Value.{Value}
 use Rattle.bl_value.specs.declared.cell.CellRefusal.{CellRefusal}
@@ -45,16 +47,14 @@ abbrev pub system_cell : (ColumnUse → Bool) → List ColumnUse → Fields → 
 system_cell is_wanted (column ∷ uses) (field ∷ fields) = if is_wanted column then without_spaces field else system_cell is_wanted uses fields
 system_cell is_wanted _ _ = []
 
--- texts without those that stand further left
-abbrev pub once_behind : List (List ℕ) → List (List ℕ) → List (List ℕ)
-once_behind left [] = []
-once_behind left (text ∷ texts) =
-    if list_any (λ other. pointwise nat_eq other text) left then once_behind left texts else text ∷ once_behind (left ++ text ∷ []) texts
+-- texts without the spaces at their ends, those that aren't empty
+abbrev pub some_labels : List (List ℕ) → List (List ℕ)
+some_labels found = filter (λ label. not (length label == 0)) (map without_spaces found)
 
 -- The labels of a vertex: the items of its label cell lose the spaces at their ends, then empty and
 -- repeated ones are dropped.
 abbrev pub labels_of : List (List ℕ) → List (List ℕ)
-labels_of found = once_behind [] (filter (λ label. not (length label == 0)) (map without_spaces found))
+labels_of found = once_behind (pointwise nat_eq) [] (some_labels found)
 
 abbrev pub labels_in : List ℕ → List (List ℕ)
 labels_in label_cell = labels_of (items label_cell)
@@ -98,9 +98,16 @@ value_count columns fields =
 
 -- Faults.
 
--- an id or a label of at most 1,024 bytes
+-- the most bytes that the fields of a record may have together, and the most labels and values
+abbrev pub record_limit : ℕ
+record_limit = 1048576
+
+abbrev pub value_limit : ℕ
+value_limit = 4096
+
+-- an id or a label that isn't too long
 abbrev pub is_short : List ℕ → Bool
-is_short text = nat_le (length text) 1024
+is_short text = nat_le (length text) id_limit
 
 -- an id of the record, which on an edge file has two more
 abbrev pub is_key_use : Side → ColumnUse → Bool
@@ -149,14 +156,14 @@ OfRecord column item = (column ≡ 0) × (item ≡ 0)
 abbrev pub IsFaultBy : Columns → Fields → LogCode → ℕ → ℕ → Type 0
 IsFaultBy columns fields ColumnCount column item = OfRecord column item × ((length fields == length columns.uses) ≡ false)
 IsFaultBy columns fields NotUtf8 column item = OfRecord column item × (list_all is_utf8 fields ≡ false)
-IsFaultBy columns fields RecordTooLarge column item = OfRecord column item × (nat_le (sum_by length fields) 1048576 ≡ false)
+IsFaultBy columns fields RecordTooLarge column item = OfRecord column item × (nat_le (sum_by length fields) record_limit ≡ false)
 IsFaultBy columns fields MissingId column item =
     (item ≡ 0) × HoldsAt columns.uses fields column (λ role field. is_missing columns.side role field ≡ true)
 IsFaultBy columns fields IdTooLong column item =
     (item ≡ 0) × HoldsAt columns.uses fields column (λ role field. is_long columns.side role field ≡ true)
 IsFaultBy columns fields NotOfType column item = HoldsAt columns.uses fields column (λ role field. IsRefused role field item refusal.NotOfType)
 IsFaultBy columns fields OutOfRange column item = HoldsAt columns.uses fields column (λ role field. IsRefused role field item refusal.OutOfRange)
-IsFaultBy columns fields TooManyValues column item = OfRecord column item × (nat_le (value_count columns fields) 4096 ≡ false)
+IsFaultBy columns fields TooManyValues column item = OfRecord column item × (nat_le (value_count columns fields) value_limit ≡ false)
 IsFaultBy columns fields _ column item = ⊥
 
 -- the fault is one of the record's

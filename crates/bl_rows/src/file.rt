@@ -7,6 +7,7 @@ ghost use Rattle.bl_rows.specs.declared.file.FileRefusal.TheVariants as refusal;
 
 use bl_outside::{Folder, NoMemory, Outside, Piece, Text};
 use std::alloc::Global;
+use thiserror::Error;
 
 /// The most bytes that a file may have.
 pub const FILE_LIMIT: usize = 268_435_456;
@@ -21,14 +22,16 @@ pub struct FileBytes {
 }
 
 /// Why a file was not read.
-#[derive(Clone, Copy, Debug, PartialEq, Eq)]
+#[derive(Clone, Copy, Debug, PartialEq, Eq, Error)]
 pub enum FileRefusal {
-    /// There is no file at the path.
+    #[error("there is no such file")]
     Missing,
-    /// The file has more bytes than a file may have.
+    #[error("the file has more than 268,435,456 bytes")]
     TooLarge,
     /// The folder failed. Its count of faults rose.
+    #[error("the file could not be read")]
     ReadFault,
+    #[error("out of memory")]
     NoMemory,
 }
 
@@ -68,7 +71,8 @@ pub fn read_file<F: Folder>(
     ensures small { IfOk result (λ file. IsSmall file.bytes) }
     ensures files { F.files folder.new ≡ F.files folder.old }
     ensures later { F.faults folder.old ≤ F.faults folder.new }
-    ensures fault { IsErrOf result FileRefusal.ReadFault → Rose (F.faults folder.old) (F.faults folder.new) }
+    ensures fault { IsErrOf result FileRefusal.ReadFault
+        → Rose (F.faults folder.old) (F.faults folder.new) }
 {
     let mut bytes = Text::new(alloc);
     while bytes.len() <= FILE_LIMIT {

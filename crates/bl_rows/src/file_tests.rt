@@ -1,16 +1,11 @@
 // Files of a folder in memory, their records and digests.
-ghost use Rattle.std.specs.Prelude.{IfOk};
-ghost use Rattle.std.specs.Str.{IsUtf8};
+ghost use Rattle.std.specs.Prelude.{◌≡◌, length, IfOk};
 
 use crate::{FileRefusal, RowReader, read_file, start};
-use bl_outside::{Digest, Faults, List, MemoryFolder, NoMemory, Text};
+use bl_outside::{
+    Digest, Faults, Folder, List, Listing, MemoryFolder, NoMemory, Outside, Piece, Text,
+};
 use std::alloc::Global;
-
-fn text(alloc: Global, s: &str) -> Result<Text, NoMemory>
-    ensures { IfOk result IsUtf8 }
-{
-    Text::copy_of(alloc, s.as_bytes())
-}
 
 // The file at the path, where `a` has these bytes, comes in pieces of at most a size, and one call
 // is to fail.
@@ -24,8 +19,8 @@ fn file_read(
     let mut plan = List::new(alloc);
     plan.push(fails)?;
     let mut folder = MemoryFolder::new(alloc, piece, Faults::of(plan, 0));
-    folder.put_file(text(alloc, "a")?, Text::copy_of(alloc, bytes)?)?;
-    let file = read_file(alloc, &mut folder, &text(alloc, path)?)?;
+    folder.put_file(Text::of_str(alloc, "a")?, Text::copy_of(alloc, bytes)?)?;
+    let file = read_file(alloc, &mut folder, &Text::of_str(alloc, path)?)?;
     Ok(file.bytes)
 }
 
@@ -44,10 +39,64 @@ fn a_file_is_read_to_its_end_in_whatever_pieces(rt: HostRuntime) {
     assert!(rt; matches!(failed, Err(FileRefusal::ReadFault)));
 }
 
+// A folder with one file of this size, whose bytes are made as they are asked for. It notes the
+// most bytes that were asked for at once.
+#[derive(Drop)]
+struct LargeFolder {
+    alloc: Global,
+    size: u64,
+    most: u32,
+}
+
+fn zeros(alloc: Global, count: usize) -> Result<Text, NoMemory>
+    ensures { IfOk result (λ bytes. length bytes ≡ count) }
+{
+    Ok(Text::from_vec(vec![in alloc; 0; count]?))
+}
+
+impl Folder for LargeFolder {
+    ghost use Rattle.std.specs.Prelude.{None};
+
+    ghost files = { λ _. None };
+
+    ghost faults = { λ _. 0 };
+
+    fn list(&mut self, _: &Text) -> Result<Listing, Outside> {
+        Err(Outside::NoMemory)
+    }
+
+    fn read_at(&mut self, _: &Text, at: u64, most: u32) -> Result<Piece, Outside> {
+        self.most = self.most.max(most);
+        if at >= self.size {
+            return Ok(Piece::Ended);
+        }
+        let count = (self.size - at).min(u64::from(most));
+        Ok(Piece::Bytes(zeros(self.alloc, count as usize)?))
+    }
+}
+
+#[test]
+fn a_file_has_a_limit_to_the_byte_and_is_read_in_pieces_of_a_mebibyte(rt: HostRuntime) {
+    let alloc = rt.alloc();
+    let path = Text::of_str(alloc, "a").expect(&rt, "memory");
+    for (size, is_read) in [(268_435_456, true), (268_435_457, false)] {
+        let mut folder = LargeFolder {
+            alloc,
+            size,
+            most: 0,
+        };
+        match read_file(alloc, &mut folder, &path) {
+            Ok(file) => assert!(rt; is_read && file.bytes.len() == 268_435_456),
+            Err(refusal) => assert!(rt; !is_read && refusal == FileRefusal::TooLarge),
+        }
+        assert!(rt; folder.most == 1_048_576);
+    }
+}
+
 fn reader_of(alloc: Global, bytes: &[u8]) -> Result<RowReader, FileRefusal> {
     let mut folder = MemoryFolder::new(alloc, 1, Faults::none(alloc));
-    folder.put_file(text(alloc, "a")?, Text::copy_of(alloc, bytes)?)?;
-    let file = read_file(alloc, &mut folder, &text(alloc, "a")?)?;
+    folder.put_file(Text::of_str(alloc, "a")?, Text::copy_of(alloc, bytes)?)?;
+    let file = read_file(alloc, &mut folder, &Text::of_str(alloc, "a")?)?;
     Ok(start(alloc, file)?)
 }
 

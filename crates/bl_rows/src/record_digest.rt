@@ -1,11 +1,10 @@
 // The digest of a file's records.
-ghost use Rattle.std.specs.Prelude.{◌≡◌, ◌++◌, [], length, List as Items, ℕ};
+ghost use Rattle.std.specs.Prelude.{◌≡◌, ◌++◌, [], length, IfOk, OnOk};
 ghost use Rattle.std.specs.Int.{w32, to_be_bytes};
-ghost use Rattle.sha2.specs.Hashers.{Holds256};
 ghost use Rattle.sha2.specs.Sha256.{sha256};
 ghost use Rattle.bl_rows.specs.Digests.{record_text};
 
-use bl_outside::{Digest as RecordDigest, List, Text};
+use bl_outside::{Digest as RecordDigest, List, NoMemory, Text};
 use sha2::{Digest, Sha256};
 
 // A length as four bytes, the highest first. A file is too small for a longer one.
@@ -16,15 +15,16 @@ fn length_bytes(length: usize) -> [u8; 4]
     [a, b, c, d]
 }
 
-// Adds the canonical text of a record to the hasher's message.
-fn feed_record(hasher: &mut Sha256, fields: &[Text])
-    ensures { (message : Items ℕ) → Holds256 hasher.old message → Holds256 hasher.new (message ++ record_text fields.now) }
+// Adds the canonical text of a record.
+fn push_record(room: &mut Vec<u8>, fields: &[Text]) -> Result<(), NoMemory>
+    ensures { OnOk result (room.new.items ≡ room.old.items ++ record_text fields.now) }
 {
-    hasher.update(length_bytes(fields.len()));
+    room.extend_from_slice(&length_bytes(fields.len()))?;
     for field in fields {
-        hasher.update(length_bytes(field.len()));
-        hasher.update(field.as_slice());
+        room.extend_from_slice(&length_bytes(field.len()))?;
+        room.extend_from_slice(field.as_slice())?;
     }
+    Ok(())
 }
 
 /// The digest of no record.
@@ -36,25 +36,38 @@ pub fn digest_of_none() -> RecordDigest
     }
 }
 
-/// The digest of a header.
-pub fn digest_of_header(header: &List<Text>) -> RecordDigest
-    ensures { result.bytes ≡ sha256 (record_text header.now) }
+// The digest of these bytes and a record behind them, whose text is put together in the room.
+fn digest_of(
+    room: &mut Vec<u8>,
+    before: &[u8],
+    fields: &List<Text>,
+) -> Result<RecordDigest, NoMemory>
+    ensures { IfOk result
+        (λ digest. digest.bytes ≡ sha256 (before.now ++ record_text fields.now)) }
 {
-    let mut hasher = Sha256::new();
-    feed_record(&mut hasher, header.as_slice());
-    RecordDigest {
-        bytes: hasher.finalize(),
-    }
+    room.clear();
+    room.extend_from_slice(before)?;
+    push_record(room, fields.as_slice())?;
+    Ok(RecordDigest {
+        bytes: Sha256::digest(room.as_slice()),
+    })
+}
+
+/// The digest of a header.
+pub fn digest_of_header(room: &mut Vec<u8>, header: &List<Text>) -> Result<RecordDigest, NoMemory>
+    ensures { IfOk result (λ digest. digest.bytes ≡ sha256 (record_text header.now)) }
+{
+    digest_of(room, &[], header)
 }
 
 /// The digest after one more record.
-pub fn digest_behind(before: &RecordDigest, fields: &List<Text>) -> RecordDigest
-    ensures { result.bytes ≡ sha256 (before.now.bytes ++ record_text fields.now) }
+pub fn digest_behind(
+    room: &mut Vec<u8>,
+    before: &RecordDigest,
+    fields: &List<Text>,
+) -> Result<RecordDigest, NoMemory>
+    ensures { IfOk result
+        (λ digest. digest.bytes ≡ sha256 (before.now.bytes ++ record_text fields.now)) }
 {
-    let mut hasher = Sha256::new();
-    hasher.update(before.bytes);
-    feed_record(&mut hasher, fields.as_slice());
-    RecordDigest {
-        bytes: hasher.finalize(),
-    }
+    digest_of(room, &before.bytes, fields)
 }

@@ -9,15 +9,32 @@ use bl_outside::{List, NoMemory, Text};
 use csv::{ByteRecord, Reader, ReaderBuilder};
 use std::alloc::Global;
 use std::io::Cursor;
+use std::marker::Model;
 
-/// A reader of the records of a file, whose bytes it owns. It is some 16 KiB large, so keep it in
-/// one place.
+/// A reader of the records of a file, whose bytes it owns. Contracts see it as the records that
+/// are left, and as nothing once memory ran out. It is some 16 KiB large, so keep it in one place.
 #[derive(Drop)]
 pub struct RecordReader {
     alloc: Global,
     reader: Reader<Cursor<Vec<u8>>>,
     row: ByteRecord,
     ended: bool,
+    // Memory ran out, so a record may be lost.
+    lost: bool,
+}
+
+impl Model for RecordReader {
+    ghost use Rattle.std.specs.Prelude.{List as Items};
+    ghost use Rattle.std.specs.declared.option.Option.{Option};
+    ghost use Rattle.bl_rows.specs.Contents.{Fields};
+
+    ghost Value = { Option (Items Fields) };
+
+    ghost use Rattle.bl_rows.specs.RecordReaders.{IsSound, records_left};
+
+    ghost view = { records_left };
+
+    ghost invariant = { IsSound };
 }
 
 // The next record into the row, and whether there was one. Bytes in memory are always read, so an
@@ -43,33 +60,43 @@ fn fields_of_row(alloc: Global, row: &ByteRecord) -> Result<List<Text>, NoMemory
 
 impl RecordReader {
     /// A reader before the first record.
-    pub fn start(alloc: Global, bytes: Text) -> RecordReader
+    pub fn start(alloc: Global, bytes: Text) -> Result<RecordReader, NoMemory>
         requires { IsSmall bytes }
-        ensures { HasLeft result (contents bytes) }
+        ensures { IfOk result (λ reader. HasLeft reader (contents bytes)) }
     {
+        let bytes = bytes.into_vec()?;
         let reader = ReaderBuilder::new()
             .has_headers(false)
             .flexible(true)
-            .from_reader(alloc, Cursor::new(bytes.into_vec()));
-        RecordReader {
+            .from_reader(alloc, Cursor::new(bytes));
+        Ok(RecordReader {
             alloc,
             reader,
             row: ByteRecord::new(alloc),
             ended: false,
-        }
+            lost: false,
+        })
     }
 
-    /// The next record. A reader that ran out of memory may have lost one, and isn't used again.
+    /// The next record. A reader that ran out of memory may have lost one, and gives no other.
     pub fn next(&mut self) -> Result<Option<List<Text>>, NoMemory>
-        ensures { (rows : Items Fields) → HasLeft self.old rows → IfOk result (GivesNext rows self.new) }
+        ensures { (rows : Items Fields) → HasLeft self.old rows
+            → IfOk result (GivesNext rows self.new) }
     {
+        if self.lost {
+            return Err(NoMemory);
+        }
         if self.ended {
             return Ok(None);
         }
+        self.lost = true;
         self.ended = !take_record(&mut self.reader, &mut self.row)?;
         if self.ended {
+            self.lost = false;
             return Ok(None);
         }
-        Ok(Some(fields_of_row(self.alloc, &self.row)?))
+        let fields = fields_of_row(self.alloc, &self.row)?;
+        self.lost = false;
+        Ok(Some(fields))
     }
 }

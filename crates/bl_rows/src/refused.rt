@@ -7,7 +7,8 @@ use bl_value::LogCode;
 /// Why a record has no row.
 #[derive(Clone, Copy, Debug, PartialEq, Eq)]
 pub enum Refused {
-    /// A rule is broken. The column is counted from 1, and 0 where the rule is about the whole record.
+    /// A rule is broken. The column is counted from 1, and 0 where the rule is about the whole
+    /// record.
     Fault { code: LogCode, column: u32 },
     NoMemory,
 }

@@ -5,13 +5,10 @@ ghost use Rattle.bl_value.specs.ValidColumns.{IsColumns};
 use crate::conversion::row_of;
 use crate::convert;
 use crate::refused::Refused;
+use crate::row_lines::written;
 use bl_outside::{List, NoMemory, Text};
-use bl_value::{Column, ColumnUse, Columns, LogCode, Property, Row, Side, Value, ValueType};
+use bl_value::{Column, ColumnUse, Columns, Row, Side, ValueType};
 use std::alloc::Global;
-
-fn text(alloc: Global, s: &str) -> Result<Text, NoMemory> {
-    Text::copy_of(alloc, s.as_bytes())
-}
 
 fn property(
     alloc: Global,
@@ -21,7 +18,7 @@ fn property(
     many: bool,
 ) -> Result<ColumnUse, NoMemory> {
     Ok(ColumnUse::Property(Column {
-        name: text(alloc, name)?,
+        name: Text::of_str(alloc, name)?,
         kind,
         single,
         many,
@@ -71,87 +68,6 @@ fn fields_of(alloc: Global, line: &[u8]) -> Result<List<Text>, NoMemory> {
     Ok(fields)
 }
 
-fn write_value(alloc: Global, value: &Value, out: &mut Text) -> Result<(), NoMemory> {
-    match value {
-        Value::Str(text) => out.extend(text.as_slice()),
-        Value::Byte(number) => out.extend(format!(in alloc; "{number}")?.as_bytes()),
-        Value::Int(number) => out.extend(format!(in alloc; "{number}")?.as_bytes()),
-        _ => out.push(b'?'),
-    }
-}
-
-fn write_properties(
-    alloc: Global,
-    properties: &List<Property>,
-    out: &mut Text,
-) -> Result<(), NoMemory> {
-    for property in properties.as_slice() {
-        out.push(b' ')?;
-        out.extend(property.key.as_slice())?;
-        for value in property.values.as_slice() {
-            out.push(b'=')?;
-            write_value(alloc, value, out)?;
-        }
-    }
-    Ok(())
-}
-
-fn code_text(code: LogCode) -> &'static str {
-    match code {
-        LogCode::ColumnCount => "ColumnCount",
-        LogCode::NotUtf8 => "NotUtf8",
-        LogCode::RecordTooLarge => "RecordTooLarge",
-        LogCode::MissingId => "MissingId",
-        LogCode::IdTooLong => "IdTooLong",
-        LogCode::NotOfType => "NotOfType",
-        LogCode::OutOfRange => "OutOfRange",
-        LogCode::TooManyValues => "TooManyValues",
-        _ => "another",
-    }
-}
-
-// The texts with a bar before each.
-fn write_texts(texts: &[&Text], out: &mut Text) -> Result<(), NoMemory> {
-    for text in texts {
-        out.push(b'|')?;
-        out.extend(text.as_slice())?;
-    }
-    Ok(())
-}
-
-// A row as a line.
-fn written(alloc: Global, row: &Row) -> Result<Text, NoMemory> {
-    let mut out = Text::new(alloc);
-    match row {
-        Row::Vertex {
-            id,
-            labels,
-            properties,
-        } => {
-            write_texts(&[id], &mut out)?;
-            for label in labels.as_slice() {
-                write_texts(&[label], &mut out)?;
-            }
-            write_properties(alloc, properties, &mut out)?;
-        }
-        Row::Edge {
-            id,
-            label,
-            from,
-            to,
-            properties,
-        } => {
-            write_texts(&[id, label, from, to], &mut out)?;
-            write_properties(alloc, properties, &mut out)?;
-        }
-        Row::Bad { code, column } => {
-            out.extend(code_text(*code).as_bytes())?;
-            out.extend(format!(in alloc; " {column}")?.as_bytes())?;
-        }
-    }
-    Ok(out)
-}
-
 // What the record of a line says.
 fn said(alloc: Global, columns: &Columns, line: &[u8]) -> Result<Text, NoMemory> {
     let fields = fields_of(alloc, line)?;
@@ -168,7 +84,7 @@ fn said(alloc: Global, columns: &Columns, line: &[u8]) -> Result<Text, NoMemory>
 #[test]
 fn a_vertex_record_is_a_row_or_its_least_fault(rt: HostRuntime) {
     let columns = vertex_columns(rt.alloc()).expect(&rt, "memory");
-    let table: [(&[u8], &[u8]); 22] = [
+    let table: [(&[u8], &[u8]); 24] = [
         (b"a||127|", b"|a age=127"),
         (b"b||128|", b"OutOfRange 3"),
         (b"c||-128|", b"|c age=-128"),
@@ -187,6 +103,8 @@ fn a_vertex_record_is_a_row_or_its_least_fault(rt: HostRuntime) {
         (b"v1||1||", b"ColumnCount 0"),
         (b"v1|||\xff", b"NotUtf8 0"),
         (b"|||\xff", b"NotUtf8 0"),
+        (b"v1||\xff|", b"NotUtf8 0"),
+        (b"\xff|||", b"NotUtf8 0"),
         (b"v1|\xff", b"ColumnCount 0"),
         (b"v1||999|a", b"OutOfRange 3"),
         (b"v1||999x|a", b"NotOfType 3"),
@@ -221,7 +139,7 @@ fn an_edge_record_is_a_row_or_its_least_fault(rt: HostRuntime) {
 
 // A line of a text, so many times a byte, and another text.
 fn line_of(alloc: Global, before: &str, size: usize, after: &str) -> Result<Text, NoMemory> {
-    let mut line = text(alloc, before)?;
+    let mut line = Text::of_str(alloc, before)?;
     for _ in 0..size {
         line.push(b'x')?;
     }
@@ -259,9 +177,42 @@ fn each_limit_is_kept_to_the_byte(rt: HostRuntime) {
     }
 }
 
+#[test]
+fn each_id_of_an_edge_has_its_limit(rt: HostRuntime) {
+    let alloc = rt.alloc();
+    let columns = edge_columns(alloc).expect(&rt, "memory");
+    let table: [(&str, &str, &[u8]); 4] = [
+        ("|", "|e1|b|", b"IdTooLong 2"),
+        ("|a|", "|b|", b"IdTooLong 3"),
+        ("|a|e1|", "|", b"IdTooLong 4"),
+        ("|a|e1|b|", "", b"IdTooLong 5"),
+    ];
+    for (before, after, wanted) in &table {
+        let line = line_of(alloc, before, 1024, after).expect(&rt, "memory");
+        let row = said(alloc, &columns, line.as_slice()).expect(&rt, "memory");
+        assert!(rt; row.get(0).copied() == Some(b'|'));
+        let line = line_of(alloc, before, 1025, after).expect(&rt, "memory");
+        let row = said(alloc, &columns, line.as_slice()).expect(&rt, "memory");
+        assert!(rt; row.as_slice() == *wanted);
+    }
+}
+
+#[test]
+fn the_leftmost_of_the_ids_at_fault_is_told(rt: HostRuntime) {
+    let alloc = rt.alloc();
+    let columns = edge_columns(alloc).expect(&rt, "memory");
+    let long = line_of(alloc, "|", 1025, "").expect(&rt, "memory");
+    let mut line = Text::of_str(alloc, "|a").expect(&rt, "memory");
+    for _ in 0..3 {
+        line.extend(long.as_slice()).expect(&rt, "memory");
+    }
+    let row = said(alloc, &columns, line.as_slice()).expect(&rt, "memory");
+    assert!(rt; row.as_slice() == b"IdTooLong 3".as_slice());
+}
+
 // A vertex line with so many labels, and the rest of the line.
 fn labels_line(alloc: Global, labels: usize, after: &str) -> Result<Text, NoMemory> {
-    let mut line = text(alloc, "v|")?;
+    let mut line = Text::of_str(alloc, "v|")?;
     for label in 0..labels {
         line.extend(format!(in alloc; "{label};")?.as_bytes())?;
     }

@@ -1,24 +1,52 @@
 // The cells of the columns whose names begin with `~`: ids and labels.
-ghost use Rattle.std.specs.Prelude.{◌≡◌, ◌<◌, ◌^◌, ◌++◌, ◌∷◌, [], nat_eq, None, length, IfOk, IfErr, OnOk};
-ghost use Rattle.std.specs.List.{list_all, list_any};
-ghost use Rattle.std.specs.Cmp.Lexicographic.{pointwise};
-ghost use Rattle.bl_rows.specs.FirstFaults.{Tells, first_told, long_code, missing_code, wanted};
-ghost use Rattle.bl_rows.specs.Labels.{HasLabels};
-ghost use Rattle.bl_rows.specs.Rows.{is_key_use, is_long, is_long_label, is_missing, is_short, labels_in, labels_of, once_behind, system_cell};
+ghost use Rattle.std.specs.Prelude.{
+  ◌≡◌,
+  ◌<◌,
+  ◌^◌,
+  ℕ,
+  List as Items,
+  if◌then◌else◌,
+  Some,
+  length,
+  IfOk,
+};
+ghost use Rattle.std.specs.List.{list_all};
+ghost use Rattle.bl_value.specs.Cells.{without_spaces};
+ghost use Rattle.bl_rows.specs.Rows.{
+  is_from_use,
+  is_id_use,
+  is_key_use,
+  is_label_use,
+  is_long,
+  is_long_label,
+  is_short,
+  is_to_use,
+};
+ghost use Rattle.bl_rows.specs.SystemCells.{gather, gathered, with_system};
 
-use crate::refused::Refused;
-use bl_outside::{List, NoMemory, Text};
-use bl_value::{ColumnUse, LogCode, Side, items, without_spaces};
+use crate::labels::labels_in;
+use bl_outside::{NoMemory, Text};
+use bl_value::{ColumnUse, ID_LIMIT, Side, without_spaces};
 use std::alloc::Global;
-use std::collections::BTreeSet;
 
-/// So many labels are compared one by one. More of them are looked up in a set.
-const FEW: usize = 16;
+/// The cells of a record's system columns, without the spaces at their ends. A cell is empty where
+/// there is no such column.
+#[derive(Clone, Copy, Debug)]
+pub struct SystemCells<'a> {
+    pub id: &'a [u8],
+    pub label: &'a [u8],
+    pub from: &'a [u8],
+    pub to: &'a [u8],
+    /// The leftmost column whose id is missing, from 1.
+    pub missing: Option<u32>,
+    /// The leftmost column whose id or label is too long, from 1.
+    pub long: Option<u32>,
+}
 
 fn is_short(text: &[u8]) -> bool
     ensures { result ≡ is_short text.now }
 {
-    text.len() <= 1024
+    text.len() <= ID_LIMIT
 }
 
 // The column holds an id of the record, which on an edge file has two more.
@@ -33,108 +61,6 @@ fn is_key_use(side: Side, role: &ColumnUse) -> bool
         },
         ColumnUse::Label | ColumnUse::Property(_) => false,
     }
-}
-
-fn is_missing(side: Side, role: &ColumnUse, field: &[u8]) -> bool
-    ensures { result ≡ is_missing side role.now field.now }
-{
-    is_key_use(side, role) && without_spaces(field).is_empty()
-}
-
-/// Refuses a record whose ids aren't all there.
-pub fn check_ids(side: Side, uses: &[ColumnUse], fields: &[Text]) -> Result<(), Refused>
-    requires { length uses.now < 2 ^ 32 }
-    ensures none { OnOk result (first_told (missing_code side) 1 uses.now fields.now ≡ None) }
-    ensures fault { IfErr result (Tells (first_told (missing_code side) 1 uses.now fields.now)) }
-{
-    for (i, role) in uses.iter().enumerate() {
-        let Some(field) = fields.get(i) else {
-            return Ok(());
-        };
-        if is_missing(side, role, field.as_slice()) {
-            return Err(Refused::Fault {
-                code: LogCode::MissingId,
-                column: (i + 1) as u32,
-            });
-        }
-    }
-    Ok(())
-}
-
-fn is_among(labels: &[Text], label: &[u8]) -> bool
-    ensures { result ≡ list_any (λ other. pointwise nat_eq other label.now) labels.now }
-{
-    labels.iter().any(|other| other.as_slice() == label)
-}
-
-// Adds a label, unless it is there.
-fn add_label(alloc: Global, label: &[u8], labels: &mut List<Text>) -> Result<(), NoMemory>
-    ensures { OnOk result (labels.new ≡ labels.old ++ once_behind labels.old (label.now ∷ [])) }
-{
-    if !is_among(labels.as_slice(), label) {
-        labels.push(Text::copy_of(alloc, label)?)?;
-    }
-    Ok(())
-}
-
-// The labels of a few items.
-fn few_labels(alloc: Global, found: &[Text]) -> Result<List<Text>, NoMemory>
-    ensures { IfOk result (λ labels. labels ≡ labels_of found.now) }
-{
-    let mut labels = List::new(alloc);
-    for item in found {
-        let label = without_spaces(item.as_slice());
-        if !label.is_empty() {
-            add_label(alloc, label, &mut labels)?;
-        }
-    }
-    Ok(labels)
-}
-
-// Adds a label to the labels and to their set, unless it is there.
-fn add_seen(
-    alloc: Global,
-    label: &[u8],
-    seen: &mut BTreeSet<Text>,
-    labels: &mut List<Text>,
-) -> Result<(), NoMemory>
-    requires { HasLabels seen.old labels.old }
-    ensures labels { OnOk result (labels.new ≡ labels.old ++ once_behind labels.old (label.now ∷ [])) }
-    ensures seen { OnOk result (HasLabels seen.new labels.new) }
-{
-    let label = Text::copy_of(alloc, label)?;
-    if seen.contains(&label) {
-        return Ok(());
-    }
-    labels.push(label.copy(alloc)?)?;
-    seen.insert(label)?;
-    Ok(())
-}
-
-// The labels of any number of items.
-fn many_labels(alloc: Global, found: &[Text]) -> Result<List<Text>, NoMemory>
-    ensures { IfOk result (λ labels. labels ≡ labels_of found.now) }
-{
-    let mut seen = BTreeSet::new(alloc);
-    let mut labels = List::new(alloc);
-    for item in found {
-        let label = without_spaces(item.as_slice());
-        if !label.is_empty() {
-            add_seen(alloc, label, &mut seen, &mut labels)?;
-        }
-    }
-    Ok(labels)
-}
-
-/// The labels of a vertex, each once.
-pub fn labels_in(alloc: Global, label_cell: &[u8]) -> Result<List<Text>, NoMemory>
-    ensures { IfOk result (λ labels. labels ≡ labels_in label_cell.now) }
-{
-    let found = items(alloc, label_cell)?;
-    if found.len() <= FEW {
-        return few_labels(alloc, found.as_slice());
-    }
-    many_labels(alloc, found.as_slice())
 }
 
 fn are_short(labels: &[Text]) -> bool
@@ -163,71 +89,98 @@ fn is_long_label(alloc: Global, side: Side, label_cell: &[u8]) -> Result<bool, N
     }
 }
 
-fn is_long(alloc: Global, side: Side, role: &ColumnUse, field: &[u8]) -> Result<bool, NoMemory>
-    ensures { IfOk result (λ long. long ≡ is_long side role.now field.now) }
+// The cell is an id or a label that is too long.
+fn is_long(alloc: Global, side: Side, role: &ColumnUse, cell: &[u8]) -> Result<bool, NoMemory>
+    ensures { IfOk result
+        (λ long. (field : Items ℕ) → cell.now ≡ without_spaces field
+        → long ≡ is_long side role.now field) }
 {
     if let ColumnUse::Label = role {
-        return is_long_label(alloc, side, without_spaces(field));
+        return is_long_label(alloc, side, cell);
     }
-    Ok(is_key_use(side, role) && !is_short(without_spaces(field)))
+    Ok(is_key_use(side, role) && !is_short(cell))
 }
 
-/// Refuses a record with an id or a label that is too long.
-pub fn check_lengths(
+// The cells with one more, that of this column.
+fn with_cell<'a>(later: SystemCells<'a>, role: &ColumnUse, cell: &'a [u8]) -> SystemCells<'a>
+    ensures id { result.id.now ≡ (if is_id_use role.now then cell.now else later.entry.id.now) }
+    ensures label { result.label.now
+        ≡ (if is_label_use role.now then cell.now else later.entry.label.now) }
+    ensures from { result.from.now
+        ≡ (if is_from_use role.now then cell.now else later.entry.from.now) }
+    ensures to { result.to.now ≡ (if is_to_use role.now then cell.now else later.entry.to.now) }
+    ensures missing { result.missing ≡ later.entry.missing }
+    ensures long { result.long ≡ later.entry.long }
+{
+    match role {
+        ColumnUse::Id => SystemCells { id: cell, ..later },
+        ColumnUse::Label => SystemCells {
+            label: cell,
+            ..later
+        },
+        ColumnUse::From => SystemCells {
+            from: cell,
+            ..later
+        },
+        ColumnUse::To => SystemCells { to: cell, ..later },
+        ColumnUse::Property(_) => later,
+    }
+}
+
+fn number_if(test: bool, number: u32, other: Option<u32>) -> Option<u32>
+    ensures { result ≡ (if test then Some number else other) }
+{
+    if test { Some(number) } else { other }
+}
+
+// The same of the cells and of the faults.
+fn with_column<'a>(
+    alloc: Global,
+    side: Side,
+    number: u32,
+    role: &ColumnUse,
+    field: &'a [u8],
+    later: SystemCells<'a>,
+) -> Result<SystemCells<'a>, NoMemory>
+    ensures { IfOk result
+        (λ cells. gathered cells
+        ≡ with_system side number role.now field.now (gathered later.entry)) }
+{
+    if let ColumnUse::Property(_) = role {
+        return Ok(later);
+    }
+    let cell = without_spaces(field);
+    let is_missing = is_key_use(side, role) && cell.is_empty();
+    let is_long = is_long(alloc, side, role, cell)?;
+    Ok(SystemCells {
+        missing: number_if(is_missing, number, later.missing),
+        long: number_if(is_long, number, later.long),
+        ..with_cell(later, role, cell)
+    })
+}
+
+/// The system cells of a record, gathered from the right, so that the leftmost fault is kept.
+pub fn system_cells<'a>(
     alloc: Global,
     side: Side,
     uses: &[ColumnUse],
-    fields: &[Text],
-) -> Result<(), Refused>
-    requires { length uses.now < 2 ^ 32 }
-    ensures none { OnOk result (first_told (long_code side) 1 uses.now fields.now ≡ None) }
-    ensures fault { IfErr result (Tells (first_told (long_code side) 1 uses.now fields.now)) }
+    fields: &'a [Text],
+) -> Result<SystemCells<'a>, NoMemory>
+    requires few { length uses.now < 2 ^ 32 }
+    requires same { length fields.now ≡ length uses.now }
+    ensures { IfOk result (λ cells. gathered cells ≡ gather side 1 uses.now fields.now) }
 {
-    for (i, role) in uses.iter().enumerate() {
-        let Some(field) = fields.get(i) else {
-            return Ok(());
-        };
-        if is_long(alloc, side, role, field.as_slice())? {
-            return Err(Refused::Fault {
-                code: LogCode::IdTooLong,
-                column: (i + 1) as u32,
-            });
-        }
+    let mut cells = SystemCells {
+        id: &[],
+        label: &[],
+        from: &[],
+        to: &[],
+        missing: None,
+        long: None,
+    };
+    for i in (0..uses.len()).rev() {
+        let number = (i + 1) as u32;
+        cells = with_column(alloc, side, number, &uses[i], fields[i].as_slice(), cells)?;
     }
-    Ok(())
-}
-
-/// A column that every row of its side has at most once.
-#[derive(Clone, Copy, Debug, PartialEq, Eq)]
-pub enum SystemColumn {
-    Id,
-    Label,
-    From,
-    To,
-}
-
-fn is_wanted(column: SystemColumn, role: &ColumnUse) -> bool
-    ensures { result ≡ wanted column role.now }
-{
-    match column {
-        SystemColumn::Id => matches!(role, ColumnUse::Id),
-        SystemColumn::Label => matches!(role, ColumnUse::Label),
-        SystemColumn::From => matches!(role, ColumnUse::From),
-        SystemColumn::To => matches!(role, ColumnUse::To),
-    }
-}
-
-/// The cell of a system column, and an empty one where there is no such column.
-pub fn system_cell<'a>(column: SystemColumn, uses: &[ColumnUse], fields: &'a [Text]) -> &'a [u8]
-    ensures { result.now ≡ system_cell (wanted column) uses.now fields.now }
-{
-    for (i, role) in uses.iter().enumerate() {
-        let Some(field) = fields.get(i) else {
-            return &[];
-        };
-        if is_wanted(column, role) {
-            return without_spaces(field.as_slice());
-        }
-    }
-    &[]
+    Ok(cells)
 }

@@ -3,8 +3,9 @@ ghost use Rattle.std.specs.Prelude.{◌≤◌, IfOk, length};
 
 use bl_outside::{Disk, Outside, Text, counted};
 use std::alloc::Global;
-use std::fs::{File, Files, OpenFile, OpenOptions, create_dir_all};
+use std::fs::{File, Files, OpenFile, OpenOptions, create_dir_all, metadata};
 use std::io::{ErrorKind, Read, Seek, SeekFrom, Write};
+use std::path::Path;
 
 /// One file of a store. Where it couldn't be opened, each of its calls fails.
 #[derive(Drop)]
@@ -14,22 +15,50 @@ pub struct FileDisk<R: Files> {
     faults: u64,
 }
 
+// Syncs a folder, which keeps the names of what lies in it. The empty path is where the program
+// runs.
+fn sync_folder<R: Files>(system: &R, folder: &str) -> Option<()> {
+    let path = if folder.is_empty() { "." } else { folder };
+    File::open(system, path).ok()?.sync_all().ok()
+}
+
+// How many folders of a path are missing, from its end on.
+fn count_missing<R: Files>(system: &R, path: &str) -> usize {
+    let mut count: usize = 0;
+    for folder in Path::new(path).ancestors() {
+        if metadata(system, folder).is_ok() {
+            break;
+        }
+        count = count.saturating_add(1);
+    }
+    count
+}
+
+// Makes the store where it is missing, and syncs each folder in which a name is new.
+fn make_store<R: Files>(system: &R, store: &str) -> Option<()> {
+    let missing = count_missing(system, store);
+    create_dir_all(system, store).ok()?;
+    for folder in Path::new(store).ancestors().skip(1).take(missing) {
+        sync_folder(system, folder.as_os_str())?;
+    }
+    Some(())
+}
+
 // Makes the store where it is missing, and opens the file.
 fn open_in<R: Files>(system: &R, store: &str, path: &str) -> Option<R::File> {
-    create_dir_all(system, store).ok()?;
+    make_store(system, store)?;
     let file = OpenOptions::new()
         .read(true)
         .write(true)
         .create(true)
         .open(system, path)
         .ok()?;
-    // The file's name is kept by its folder.
-    let folder = File::open(system, store).ok()?;
-    folder.sync_all().ok()?;
+    sync_folder(system, store)?;
     Some(file)
 }
 
 impl<R: Files> FileDisk<R> {
+    /// Opens a file of the store, both made where they are missing.
     pub fn open(system: &R, alloc: Global, store: &str, path: &str) -> FileDisk<R> {
         FileDisk {
             alloc,
@@ -40,7 +69,7 @@ impl<R: Files> FileDisk<R> {
 }
 
 // Fills the room as far as the file goes.
-fn fill<F: Read>(file: &mut F, room: &mut [u8]) -> Result<usize, Outside>
+pub fn fill<F: Read>(file: &mut F, room: &mut [u8]) -> Result<usize, Outside>
     ensures { IfOk result (λ n. n ≤ length room.old) }
 {
     let mut filled = 0;

@@ -19,4 +19,6 @@ pub use system_clock::SystemClock;
 pub use write_sink::WriteSink;
 
 #[cfg(test)]
+mod stumbling;
+#[cfg(test)]
 mod tests;

@@ -77,7 +77,8 @@ fn joined(alloc: Global, root: &str, path: &str) -> Result<String, AllocError> {
     Ok(full)
 }
 
-// The names of the files that lie directly in a folder. Folders and what is neither are passed over.
+// The names of the files that lie directly in a folder. Folders and what is neither are passed
+// over.
 fn names_at<R: Files + AllocGlobal + Clone + Drop>(
     system: &R,
     path: &str,

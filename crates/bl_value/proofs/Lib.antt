@@ -2,8 +2,9 @@ mod Arrays
 mod CivilDays
 pub mod DateTexts
 mod Days
-mod Distinct
 mod Integers
+pub mod ItemTexts
 mod Moments
-mod Repeats
+pub mod OnceValues
+pub mod Repeats
 mod Utf8

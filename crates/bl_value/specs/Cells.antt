@@ -2,11 +2,12 @@
 use Rattle.std.specs.Prelude.{◌==◌, ℕ, ◌+◌, ◌-◌, ◌*◌, ◌^◌, nat_le, nat_lt, Bool, true, false, not, ◌&&◌, ◌||◌, if◌then◌else◌, codes, ℤ, pos, neg_ℤ, ◌+ℤ◌, ◌*ℤ◌, int_le, int_lt, List, [], ◌∷◌, ◌++◌, drop, length, reverse, Ok, Err}
 use Rattle.std.specs.declared.result.Result.{Result}
 use Rattle.std.specs.Char.{is_ascii_digit}
-use Rattle.std.specs.List.{list_all, list_any}
-use Rattle.std.specs.Ordering.{is_eq}
+use Rattle.std.specs.List.{list_all}
+use Rattle.std.specs.Ordering.{eq_by_cmp}
 use Rattle.std.specs.Str.{is_utf8, str_eq_ignore_ascii_case}
 use Rattle.std.specs.Str.Parse.{signed_digits_value, without_leading_sign}
 use Rattle.jiff_core.specs.Calendar.{days_from_civil, days_in_month}
+use Rattle.bl_value.specs.Once.{once_behind}
 use Rattle.bl_value.specs.Order.{value_cmp}
 use Rattle.bl_value.specs.declared.value.Value.{Value}
 use Rattle.bl_value.specs.declared.value.Value.TheVariants.{Bool as BoolValue, Byte, Short, Int, Long, Str, Date}
@@ -181,15 +182,10 @@ abbrev pub item_values : ValueType → List (List ℕ) → Result (List Value) C
 item_values kind [] = Ok []
 item_values kind (item ∷ others) = in_front (values_in kind item) (item_values kind others)
 
--- values without those that stand further left
-abbrev pub once_behind : List Value → List Value → List Value
-once_behind left [] = []
-once_behind left (value ∷ values) =
-    if list_any (λ other. is_eq (value_cmp other value)) left then once_behind left values else value ∷ once_behind (left ++ value ∷ []) values
-
+-- values, each once
 abbrev pub each_once : Result (List Value) CellRefusal → Result (List Value) CellRefusal
 each_once (Err refusal) = Err refusal
-each_once (Ok values) = Ok (once_behind [] values)
+each_once (Ok values) = Ok (once_behind (eq_by_cmp value_cmp) [] values)
 
 -- The values of a property cell, each once: those of its items where it may have many, and else that
 -- of the whole cell.

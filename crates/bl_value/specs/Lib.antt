@@ -1,4 +1,5 @@
 pub mod Order
+pub mod Once
 pub mod Valid
 pub mod ValidColumns
 pub mod Cells

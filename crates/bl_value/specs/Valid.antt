@@ -2,31 +2,41 @@
 use Rattle.std.specs.Prelude.{ℕ, ◌≤◌, ◌<◌, ◌^◌, ℤ, pos, ◌≤ℤ◌, negsuc, List, length, FitsSigned}
 use Rattle.std.specs.Int.{w8, w16, w32, w64}
 use Rattle.std.specs.Str.{IsUtf8}
+use Rattle.bl_outside.specs.Texts.{IsShortText}
 use Rattle.bl_value.specs.declared.value.Value.{Value}
 use Rattle.bl_value.specs.declared.value.Value.TheVariants.{Bool, Byte, Short, Int, Long, Str, Date}
 use Rattle.bl_value.specs.declared.change.Change.{Change}
 use Rattle.bl_value.specs.declared.change.Change.TheVariants.{AddLabel, AddEdge, AddValue, RemoveValue}
 
+-- the most bytes of an id or a label, and of a property's key
+abbrev pub id_limit : ℕ
+id_limit = 1024
+
+abbrev pub key_limit : ℕ
+key_limit = 256
+
+-- the first second of the year 0000, and the last of the year 9999, in seconds from 1970 UTC
+abbrev pub first_date : ℤ
+first_date = negsuc 62167219199
+
+abbrev pub last_date : ℤ
+last_date = pos 253402300799
+
 -- an id or a label
 pub record IsId (text : List ℕ) : Type 0 where
   pub utf8 : IsUtf8 text
   pub some : 1 ≤ length text
-  pub short : length text ≤ 1024
+  pub short : length text ≤ id_limit
 
 -- a property's key, and a column's name
 pub record IsKey (text : List ℕ) : Type 0 where
   pub utf8 : IsUtf8 text
   pub some : 1 ≤ length text
-  pub short : length text ≤ 256
-
--- the text of a value
-pub record IsShortText (text : List ℕ) : Type 0 where
-  pub utf8 : IsUtf8 text
-  pub short : length text < 2 ^ 32
+  pub short : length text ≤ key_limit
 
 -- a date lies in the years 0000 to 9999
 abbrev pub IsDate : ℤ → Type 0
-IsDate seconds = (negsuc 62167219199 ≤ℤ seconds) × (seconds ≤ℤ pos 253402300799)
+IsDate seconds = (first_date ≤ℤ seconds) × (seconds ≤ℤ last_date)
 
 -- a value in the range of its type
 abbrev pub IsValue : Value → Type 0

@@ -1,23 +1,43 @@
 // Cells of a file.
-ghost use Rattle.std.specs.Prelude.{◌≡◌, ◌⊎◌, ◌<◌, ◌^◌, false, length, reverse, Ok, Err, IfOk, IfErr};
+ghost use Rattle.std.specs.Prelude.{
+  ◌≡◌,
+  ◌⊎◌,
+  ◌<◌,
+  ◌^◌,
+  false,
+  length,
+  reverse,
+  Ok,
+  Err,
+  IfOk,
+  IfErr,
+};
 ghost use Rattle.std.specs.Str.{IsUtf8};
 ghost use Rattle.bl_value.specs.Cells as cells;
 ghost use Rattle.bl_value.specs.Cells.{is_true, text_cell, without_spaces, without_spaces_in_front};
 ghost use Rattle.bl_value.specs.Valid.{IsValue};
-ghost use Rattle.bl_value.specs.declared.cell.CellRefusal.TheVariants.{NotUtf8, NoMemory as out_of_memory};
+ghost use Rattle.bl_value.specs.declared.cell.CellRefusal.TheVariants.{
+  NotUtf8,
+  NoMemory as out_of_memory,
+};
 
 use crate::date::read_date;
 use crate::integer::{read_byte, read_int, read_long, read_short};
 use crate::{Value, ValueType};
 use bl_outside::{NoMemory, Text};
 use std::alloc::Global;
+use thiserror::Error;
 
 /// Why a cell has no value.
-#[derive(Clone, Copy, Debug, PartialEq, Eq)]
+#[derive(Clone, Copy, Debug, PartialEq, Eq, Error)]
 pub enum CellRefusal {
+    #[error("not UTF-8")]
     NotUtf8,
+    #[error("not of the column's type")]
     NotOfType,
+    #[error("outside the range of the column's type")]
     OutOfRange,
+    #[error("out of memory")]
     NoMemory,
 }
 
@@ -44,8 +64,8 @@ pub fn read_cell(alloc: Global, kind: ValueType, cell: &[u8]) -> Result<Value, C
     read_text(alloc, kind, cell)
 }
 
-// The value of a cell in UTF-8.
-fn read_text(alloc: Global, kind: ValueType, cell: &[u8]) -> Result<Value, CellRefusal>
+/// The value of a cell in UTF-8.
+pub fn read_text(alloc: Global, kind: ValueType, cell: &[u8]) -> Result<Value, CellRefusal>
     requires short { length cell.now < 2 ^ 32 }
     requires utf8 { IsUtf8 cell.now }
     ensures value { IfOk result (λ value. text_cell kind cell.now ≡ Ok value) }

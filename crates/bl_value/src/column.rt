@@ -2,6 +2,9 @@
 use crate::ValueType;
 use bl_outside::{List, Text};
 
+/// The most bytes of a property's key, which is the name of its column.
+pub const KEY_LIMIT: usize = 256;
+
 /// Whether a file, or a change, is about vertices or about edges.
 #[derive(Clone, Copy, Debug, PartialEq, Eq, PartialOrd, Ord)]
 pub enum Side {
@@ -12,7 +15,7 @@ pub enum Side {
 /// A property column.
 #[derive(Debug, Drop)]
 pub struct Column {
-    /// The property's key, 1 to 256 bytes.
+    /// The property's key, of 1 byte or more.
     pub name: Text,
     /// The type of its values.
     pub kind: ValueType,

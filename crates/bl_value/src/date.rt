@@ -1,14 +1,23 @@
 // Dates of a cell: `yyyy-MM-dd`, with a clock or without.
 ghost use Rattle.std.specs.Prelude.{◌≡◌, ◌+◌, ◌*◌, ◌≤◌, ◌<ℤ◌, drop, pos, is_some, IfSome, IfOk};
 ghost use Rattle.jiff_core.specs.Calendar.{days_from_civil};
-ghost use Rattle.bl_value.specs.Cells.{date, has_date_form, has_form, is_day, is_like, is_time, two_digits, year_of};
+ghost use Rattle.bl_value.specs.Cells.{
+  date,
+  has_date_form,
+  has_form,
+  is_day,
+  is_like,
+  is_time,
+  two_digits,
+  year_of,
+};
 ghost use Rattle.bl_value.specs.Dates.{IsDayNumber};
 ghost use Rattle.bl_value.specs.Valid.{IsValue};
 
 use crate::{CellRefusal, Value};
 use jiff_core::civil::Date;
 
-pub(crate) fn read_date(text: &[u8]) -> Result<Value, CellRefusal>
+pub fn read_date(text: &[u8]) -> Result<Value, CellRefusal>
     ensures value { result ≡ date text.now }
     ensures valid { IfOk result IsValue }
 {

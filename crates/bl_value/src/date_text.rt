@@ -11,7 +11,7 @@ use jiff_core::civil;
 use std::alloc::Global;
 
 /// The text `yyyy-MM-ddTHH:mm:ssZ` of seconds from 1970 UTC.
-pub(crate) fn date_text(alloc: Global, seconds: i64) -> Result<String, NoMemory>
+pub fn date_text(alloc: Global, seconds: i64) -> Result<String, NoMemory>
     requires { IsDate seconds }
     ensures { IfOk result (λ text. string_bytes text ≡ date_text seconds) }
 {

@@ -9,7 +9,7 @@ ghost use Rattle.bl_value.specs.declared.value.Value.TheVariants.{Byte, Short, I
 
 use crate::{CellRefusal, Value};
 
-pub(crate) fn read_byte(text: &[u8]) -> Result<Value, CellRefusal>
+pub fn read_byte(text: &[u8]) -> Result<Value, CellRefusal>
     ensures value { result ≡ integer 8 Byte text.now }
     ensures valid { IfOk result IsValue }
 {
@@ -19,7 +19,7 @@ pub(crate) fn read_byte(text: &[u8]) -> Result<Value, CellRefusal>
     }
 }
 
-pub(crate) fn read_short(text: &[u8]) -> Result<Value, CellRefusal>
+pub fn read_short(text: &[u8]) -> Result<Value, CellRefusal>
     ensures value { result ≡ integer 16 Short text.now }
     ensures valid { IfOk result IsValue }
 {
@@ -29,7 +29,7 @@ pub(crate) fn read_short(text: &[u8]) -> Result<Value, CellRefusal>
     }
 }
 
-pub(crate) fn read_int(text: &[u8]) -> Result<Value, CellRefusal>
+pub fn read_int(text: &[u8]) -> Result<Value, CellRefusal>
     ensures value { result ≡ integer 32 Int text.now }
     ensures valid { IfOk result IsValue }
 {
@@ -39,7 +39,7 @@ pub(crate) fn read_int(text: &[u8]) -> Result<Value, CellRefusal>
     }
 }
 
-pub(crate) fn read_long(text: &[u8]) -> Result<Value, CellRefusal>
+pub fn read_long(text: &[u8]) -> Result<Value, CellRefusal>
     ensures value { result ≡ integer 64 Long text.now }
     ensures valid { IfOk result IsValue }
 {
@@ -59,10 +59,8 @@ fn integer_text(text: &[u8]) -> Result<&str, CellRefusal>
     if !is_integer(text) {
         return Err(CellRefusal::NotOfType);
     }
-    let Ok(number) = str::from_utf8(text) else {
-        unreachable!();
-    };
-    Ok(number)
+    // An integer's text is ASCII.
+    Ok(unsafe { str::from_utf8_unchecked(text) })
 }
 
 fn is_integer(text: &[u8]) -> bool

@@ -30,12 +30,7 @@ pub fn json_of(alloc: Global, value: &Value) -> Result<Json, NoMemory>
         Value::Short(n) => Ok(Json::from(*n)),
         Value::Int(n) => Ok(Json::from(*n)),
         Value::Long(n) => Ok(Json::from(*n)),
-        Value::Str(text) => {
-            let Ok(text) = str::from_utf8(text.as_slice()) else {
-                unreachable!();
-            };
-            Ok(Json::try_from_str(alloc, text)?)
-        }
+        Value::Str(text) => Ok(Json::try_from_str(alloc, text.as_str())?),
         Value::Date(seconds) => Ok(Json::String(date_text(alloc, *seconds)?)),
     }
 }

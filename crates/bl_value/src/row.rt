@@ -2,6 +2,9 @@
 use crate::{LogCode, Value};
 use bl_outside::{Digest, List, Text};
 
+/// The most bytes of an id or a label.
+pub const ID_LIMIT: usize = 1_024;
+
 /// The values that a record sets at one key.
 #[derive(Debug, Drop)]
 pub struct Property {

@@ -1,23 +1,15 @@
 // Values in order, cells, arrays, JSON texts and copies.
 ghost use Rattle.std.specs.Prelude.{IfOk};
-ghost use Rattle.bl_value.specs.Valid.{IsPrintableValue, IsShortText};
+ghost use Rattle.bl_value.specs.Valid.{IsPrintableValue};
 
 use crate::{
-    CellRefusal, Change, Side, Value, ValueType, compare, copy_changes, is_empty_cell, items,
-    json_value, read_cell, read_values,
+    CellRefusal, Change, EachOnce, FIRST_DATE, LAST_DATE, Side, Value, ValueType, compare,
+    copy_changes, is_empty_cell, is_one_item, items, json_value, read_cell, read_text_values,
+    read_values,
 };
 use bl_outside::{List, NoMemory, Text};
 use std::alloc::Global;
 use std::cmp::Ordering;
-
-fn text(alloc: Global, text: &str) -> Result<Text, NoMemory>
-    ensures { IfOk result IsShortText }
-{
-    if text.len() > 1000 {
-        return Err(NoMemory);
-    }
-    Text::copy_of(alloc, text.as_bytes())
-}
 
 // Each value comes before the next.
 fn in_order(alloc: Global) -> Result<List<Value>, NoMemory> {
@@ -30,10 +22,10 @@ fn in_order(alloc: Global) -> Result<List<Value>, NoMemory> {
     values.push(Value::Int(-1))?;
     values.push(Value::Int(0))?;
     values.push(Value::Long(-9223372036854775808))?;
-    values.push(Value::Str(text(alloc, "")?))?;
-    values.push(Value::Str(text(alloc, "a")?))?;
-    values.push(Value::Str(text(alloc, "aa")?))?;
-    values.push(Value::Str(text(alloc, "b")?))?;
+    values.push(Value::Str(Text::of_str(alloc, "")?))?;
+    values.push(Value::Str(Text::of_str(alloc, "a")?))?;
+    values.push(Value::Str(Text::of_str(alloc, "aa")?))?;
+    values.push(Value::Str(Text::of_str(alloc, "b")?))?;
     values.push(Value::Date(-1))?;
     values.push(Value::Date(0))?;
     Ok(values)
@@ -51,7 +43,7 @@ fn values_go_by_type_and_then_by_value(rt: HostRuntime) {
 }
 
 fn quoted(alloc: Global, words: &str) -> Result<Text, NoMemory> {
-    let value = Value::Str(text(alloc, words)?);
+    let value = Value::Str(Text::of_str(alloc, words)?);
     json_value(alloc, &value)
 }
 
@@ -82,6 +74,29 @@ fn a_text_cell_is_its_bytes_or_no_utf8(rt: HostRuntime) {
             Ok(_) => assert!(rt; false),
             Err(refusal) => assert!(rt; !is_text && refusal == CellRefusal::NotUtf8),
         }
+    }
+}
+
+#[test]
+fn bytes_that_are_no_utf8_are_so_for_each_type(rt: HostRuntime) {
+    for kind in [
+        ValueType::Bool,
+        ValueType::Byte,
+        ValueType::Short,
+        ValueType::Int,
+        ValueType::Long,
+        ValueType::Date,
+    ] {
+        let refused = read(rt.alloc(), kind, b"1\xff");
+        assert!(rt; matches!(refused, Err(CellRefusal::NotUtf8)));
+    }
+    for (cell, want) in [
+        (b"1;\xff;x".as_slice(), CellRefusal::NotUtf8),
+        (b"x;\xff", CellRefusal::NotOfType),
+        (b"300;\xff", CellRefusal::OutOfRange),
+    ] {
+        let refused = read_values(rt.alloc(), ValueType::Byte, true, cell);
+        assert!(rt; refused.err() == Some(want));
     }
 }
 
@@ -327,6 +342,65 @@ fn semicolons_divide_texts_but_escaped_ones_stand(rt: HostRuntime) {
 }
 
 #[test]
+fn a_text_that_is_known_to_be_one_is_read_as_any(rt: HostRuntime) {
+    for (kind, many, cell, want) in [
+        (ValueType::Int, true, "7", [7].as_slice()),
+        (ValueType::Int, true, "3;2;3;2", &[3, 2]),
+        (ValueType::Byte, false, "-128", &[-128]),
+        (ValueType::Long, false, " ", &[]),
+    ] {
+        match read_text_values(rt.alloc(), kind, many, cell.as_bytes()) {
+            Ok(values) => assert!(rt; have_numbers(kind, &values, want), "{cell}"),
+            Err(_) => assert!(rt; false, "{cell}"),
+        }
+    }
+    let refused = read_text_values(rt.alloc(), ValueType::Byte, true, b"1\\;2;x");
+    assert!(rt; refused.err() == Some(CellRefusal::NotOfType));
+}
+
+#[test]
+fn a_cell_without_a_semicolon_and_a_backslash_is_one_item(rt: HostRuntime) {
+    for (cell, is_one) in [
+        ("", true),
+        ("a b", true),
+        ("a;b", false),
+        (";", false),
+        ("a\\b", false),
+    ] {
+        assert!(rt; is_one_item(cell.as_bytes()) == is_one, "{cell}");
+    }
+}
+
+// The words, each once.
+fn each_once(alloc: Global, words: &[u8]) -> Result<List<Text>, NoMemory> {
+    let mut once = EachOnce::new(alloc);
+    for byte in words {
+        once.push(alloc, Text::copy_of(alloc, &[*byte])?)?;
+    }
+    Ok(once.into_list())
+}
+
+#[test]
+fn texts_are_kept_each_once_however_many(rt: HostRuntime) {
+    for (words, want) in [
+        (b"".as_slice(), b"".as_slice()),
+        (b"abcab", b"abc"),
+        (b"aaa", b"a"),
+        (
+            b"abcdefghijklmnopqrstuvwxyzazbycxaabbccz".as_slice(),
+            b"abcdefghijklmnopqrstuvwxyz",
+        ),
+        (b"abcdefghijklmnoppoq", b"abcdefghijklmnopq"),
+    ] {
+        let once = each_once(rt.alloc(), words).expect(&rt, "memory");
+        assert!(rt; once.len() == want.len());
+        for (text, byte) in once.as_slice().iter().zip(want) {
+            assert!(rt; text.as_slice() == [*byte].as_slice());
+        }
+    }
+}
+
+#[test]
 fn items_are_all_that_semicolons_divide(rt: HostRuntime) {
     for (cell, want) in [
         ("", [""].as_slice()),
@@ -367,7 +441,7 @@ fn json_text(alloc: Global, value: Printed) -> Result<Text, NoMemory> {
 fn date(seconds: i64) -> Result<Value, NoMemory>
     ensures { IfOk result IsPrintableValue }
 {
-    if !(-62167219200..=253402300799).contains(&seconds) {
+    if !(FIRST_DATE..=LAST_DATE).contains(&seconds) {
         return Err(NoMemory);
     }
     Ok(Value::Date(seconds))
@@ -399,25 +473,25 @@ fn values_print_as_json(rt: HostRuntime) {
 fn changes(alloc: Global) -> Result<List<Change>, NoMemory> {
     let mut changes = List::new(alloc);
     changes.push(Change::AddLabel {
-        id: text(alloc, "v1")?,
-        label: text(alloc, "person")?,
+        id: Text::of_str(alloc, "v1")?,
+        label: Text::of_str(alloc, "person")?,
     })?;
     changes.push(Change::AddEdge {
-        id: text(alloc, "e1")?,
-        label: text(alloc, "knows")?,
-        from: text(alloc, "v1")?,
-        to: text(alloc, "v2")?,
+        id: Text::of_str(alloc, "e1")?,
+        label: Text::of_str(alloc, "knows")?,
+        from: Text::of_str(alloc, "v1")?,
+        to: Text::of_str(alloc, "v2")?,
     })?;
     changes.push(Change::AddValue {
         side: Side::Vertex,
-        id: text(alloc, "v1")?,
-        key: text(alloc, "name")?,
-        value: Value::Str(text(alloc, "Ann")?),
+        id: Text::of_str(alloc, "v1")?,
+        key: Text::of_str(alloc, "name")?,
+        value: Value::Str(Text::of_str(alloc, "Ann")?),
     })?;
     changes.push(Change::RemoveValue {
         side: Side::Edge,
-        id: text(alloc, "e1")?,
-        key: text(alloc, "since")?,
+        id: Text::of_str(alloc, "e1")?,
+        key: Text::of_str(alloc, "since")?,
         value: Value::Int(7),
     })?;
     copy_changes(alloc, &changes)

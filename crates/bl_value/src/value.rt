@@ -6,6 +6,15 @@ use bl_outside::{NoMemory, Text};
 use std::alloc::Global;
 use std::cmp::Ordering;
 
+/// The most bytes of the text of a value: as many as four bytes count.
+pub const TEXT_LIMIT: usize = 4_294_967_295;
+
+/// The first second of the year 0000, in seconds from 1970 UTC.
+pub const FIRST_DATE: i64 = -62_167_219_200;
+
+/// The last second of the year 9999, in seconds from 1970 UTC.
+pub const LAST_DATE: i64 = 253_402_300_799;
+
 /// A property value. The variants stand in the order of the types, which `compare` goes by first.
 #[derive(Debug, Drop, PartialEq, Eq, PartialOrd, Ord)]
 pub enum Value {
@@ -16,7 +25,7 @@ pub enum Value {
     Long(i64),
     /// A text in UTF-8.
     Str(Text),
-    /// Seconds from 1970 UTC, from -62167219200 (year 0000) to 253402300799 (year 9999).
+    /// Seconds from 1970 UTC, from `FIRST_DATE` to `LAST_DATE`.
     Date(i64),
 }
 

@@ -1,25 +1,24 @@
-use Rattle.std.proofs.Common.{◌∙◌, ap, sym, arith}
-use Rattle.std.specs.Prelude.{Ok}
+use Rattle.std.proofs.Common.{◌∙◌, ap, sym, subst, arith}
+use Rattle.std.specs.List.{All}
 use Rattle.std.specs.Option.{option_copied}
-use Rattle.bl_value.specs.Cells.{in_front, item_values, values_in}
-use Rattle.bl_value.specs.ItemsLeft.{bytes_left, items_left}
-use Rattle.bl_value.proofs.Arrays.{values_more}
+use Rattle.std.specs.Str.{IsUtf8}
+use Rattle.std.proofs.lemmas.List.Elements.{All-nil}
+use Rattle.bl_value.specs.Cells.{item_values, items}
+use Rattle.bl_value.specs.ItemsLeft.{items_left, with_values}
+use Rattle.bl_value.specs.Valid.{IsValue}
+use Rattle.bl_value.proofs.Arrays.{behind_none}
+use Rattle.bl_value.proofs.ItemTexts.{items_are_utf8}
 use Rattle.bl_value.proofs.array.read_items.Goals as goal
 
-pub loop-left-preserved : goal.loop-left-preserved
-loop-left-preserved c =
-    let kind = c.args.kind in
-    let before = c.loop-left.values in
-    let item = c.read_item.new.item.items in
-    let others = items_left (option_copied c.in_ok-left.left) in
-    let read = c.in_ok-left.ensures in
-    let pushed = c.in_ok-push_value.ensures in
-    record {
-      values =
-          sym (values_more kind before c.push_value.new.values item others
-          (ap (λ bytes. in_front (Ok before) (values_in kind bytes)) (sym c.as_slice.ensures.value) ∙ pushed.value))
-          ∙ ap (λ items. in_front (Ok before) (item_values kind items)) (sym read.items ∙ ap (λ left. items_left (option_copied left)) (sym c.in-Some.is))
-          ∙ c.loop-left.invariant.values;
-      bytes = omega (arith, read.bytes, c.loop-left.invariant.bytes, ap (λ left. bytes_left (option_copied left)) c.in-Some.is);
-      valid = pushed.valid;
-    }
+pub loop-left-init : goal.loop-left-init
+loop-left-init c = record {
+  values =
+      ap (λ values. with_values values (item_values c.args.kind (items c.args.cell.now))) c.new-values.ensures
+      ∙ behind_none (item_values c.args.kind (items c.args.cell.now));
+  texts = λ is. items_are_utf8 c.args.cell.now (c.requires.utf8 is);
+  bytes = omega arith;
+  valid = subst (All IsValue) (sym c.new-values.ensures) (All-nil IsValue);
+}
+
+pub take_item-requires-clause-utf8 : goal.take_item-requires-clause-utf8
+take_item-requires-clause-utf8 c = λ is. subst (λ left. All IsUtf8 (items_left (option_copied left))) c.in-Some.is (c.loop-left.invariant.texts is)

@@ -1,9 +1,8 @@
 use Rattle.std.proofs.Common.{◌≡◌, ap, sym, subst, inr, if◌then◌else◌}
 use Rattle.std.specs.Prelude.{IfOk, IfErr, Ok, Err, ◌⊎◌}
-use Rattle.std.proofs.lemmas.Str.{is_utf8-from_IsUtf8}
-use Rattle.bl_value.specs.Cells.{cell, text_cell}
+use Rattle.bl_value.specs.Cells.{text_cell}
 use Rattle.bl_value.specs.declared.cell.CellRefusal.TheVariants.{NotUtf8, NoMemory}
-use Rattle.bl_value.proofs.Utf8.{no_utf8}
+use Rattle.bl_value.proofs.Utf8.{no_utf8, text_means}
 use Rattle.bl_value.proofs.cell.read_cell.Goals as goal
 
 pub returns-in_default-clause-refusal : goal.returns-in_default-clause-refusal
@@ -12,12 +11,8 @@ returns-in_default-clause-refusal c =
 
 pub returns-clause-value : goal.returns-clause-value
 returns-clause-value c =
-    let whole : cell c.args.kind c.args.cell.now ≡ text_cell c.args.kind c.args.cell.now =
-    ap (λ test. if test then text_cell c.args.kind c.args.cell.now else Err NotUtf8) (is_utf8-from_IsUtf8 c.args.cell.now c.in-Ok.ensures.cases.1) in
-    subst (λ meaning. IfOk c.read_text.result (λ value. meaning ≡ Ok value)) (sym whole) c.read_text.ensures.value
+    subst (λ meaning. IfOk c.read_text.result (λ value. meaning ≡ Ok value)) (sym (text_means c.args.kind c.args.cell.now c.in-Ok.ensures.cases.1)) c.read_text.ensures.value
 
 pub returns-clause-refusal : goal.returns-clause-refusal
 returns-clause-refusal c =
-    let whole : cell c.args.kind c.args.cell.now ≡ text_cell c.args.kind c.args.cell.now =
-    ap (λ test. if test then text_cell c.args.kind c.args.cell.now else Err NotUtf8) (is_utf8-from_IsUtf8 c.args.cell.now c.in-Ok.ensures.cases.1) in
-    subst (λ meaning. IfErr c.read_text.result (λ refusal. (refusal ≡ NoMemory) ⊎ (meaning ≡ Err refusal))) (sym whole) c.read_text.ensures.refusal
+    subst (λ meaning. IfErr c.read_text.result (λ refusal. (refusal ≡ NoMemory) ⊎ (meaning ≡ Err refusal))) (sym (text_means c.args.kind c.args.cell.now c.in-Ok.ensures.cases.1)) c.read_text.ensures.refusal

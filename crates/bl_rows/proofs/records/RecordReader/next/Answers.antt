@@ -1,14 +1,15 @@
-use Rattle.std.proofs.lemmas.Bool.{not-false, not-true}
-use Rattle.bl_rows.proofs.Readers.{gives-ended, gives-none, gives-some}
+use Rattle.std.proofs.Common.{◌∙◌}
+use Rattle.bl_rows.proofs.Readers.{gives-none, gives-some, sound-some}
 use Rattle.bl_rows.proofs.records.RecordReader.next.Goals as goal
 
-pub returns-then-self : goal.returns-then-self
-returns-then-self c = λ rows has. gives-ended c.args.self.now rows c.if-self.true has
+pub returns-then-self-3 : goal.returns-then-self-3
+returns-then-self-3 c = λ rows has.
+    gives-none c.self.inside rows c.in_ok-self-inside.field-0 _ c.take_record.new.reader c.if-self.false c.if-self-2.false c.self.invariant (c.self.view_is ∙ has) c.in_ok-self-inside.ensures c.if-self-3.true
 
-pub returns-then-self-2 : goal.returns-then-self-2
-returns-then-self-2 c = λ rows has.
-    gives-none c.args.self.now _ rows c.in_ok-self.field-0 _ c.if-self.false has c.in_ok-self.ensures (not-true c.in_ok-self.field-0 c.if-self-2.true) c.if-self-2.true
+pub invariant_of-self-2 : goal.invariant_of-self-2
+invariant_of-self-2 c =
+    sound-some c.self.inside c.in_ok-self-inside.field-0 _ c.take_record.new.reader c.if-self.false c.if-self-2.false c.self.invariant c.in_ok-self-inside.ensures c.if-self-3.false
 
 pub returns : goal.returns
 returns c = λ rows has.
-    gives-some c.args.self.now _ rows c.in_ok-self.field-0 _ _ c.if-self.false has c.in_ok-self.ensures (not-false c.in_ok-self.field-0 c.if-self-2.false) c.if-self-2.false c.in_ok-fields_of_row.ensures
+    gives-some c.self.inside rows c.in_ok-self-inside.field-0 _ c.in_ok-fields.fields c.take_record.new.reader c.if-self.false c.if-self-2.false c.self.invariant (c.self.view_is ∙ has) c.in_ok-self-inside.ensures c.if-self-3.false c.in_ok-fields.ensures

@@ -1,0 +1,5 @@
+mod Bytes
+mod Calls
+mod Readings
+mod Known
+mod Sides

@@ -1,0 +1,2 @@
+pub mod SlotFiles
+pub mod TwoSlots
