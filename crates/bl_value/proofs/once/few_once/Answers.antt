@@ -28,6 +28,17 @@ loop-value-preserved-else-not-is_among c =
       left = All-tail IsValue c.in-Some.value rest left;
     }
 
+pub loop-value-preserved-else-not-is_among-2 : goal.loop-value-preserved-else-not-is_among-2
+loop-value-preserved-else-not-is_among-2 c =
+    let rest = into_iter_items c.next.new.self in
+    let more : into_iter_items c.loop-value.value-iterator ≡ c.in-Some.value ∷ rest = c.in-Some.ensures.steps.0 in
+    let left = subst (All IsValue) more c.loop-value.invariant.left in
+    record {
+      once = dropped c.loop-value.once (into_iter_items c.loop-value.value-iterator) rest _ c.in-Some.value more (sym c.is_among.ensures ∙ c.if-not-is_among.false) c.loop-value.invariant.once;
+      kept = c.loop-value.invariant.kept;
+      left = All-tail IsValue c.in-Some.value rest left;
+    }
+
 pub loop-value-preserved : goal.loop-value-preserved
 loop-value-preserved c =
     let rest = into_iter_items c.next.new.self in

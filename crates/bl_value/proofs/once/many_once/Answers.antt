@@ -31,6 +31,18 @@ loop-value-preserved-else-not-contains c =
       left = All-tail IsValue c.in-Some.value rest left;
     }
 
+pub loop-value-preserved-else-not-contains-2 : goal.loop-value-preserved-else-not-contains-2
+loop-value-preserved-else-not-contains-2 c =
+    let rest = into_iter_items c.next.new.self in
+    let more : into_iter_items c.loop-value.value-iterator ≡ c.in-Some.value ∷ rest = c.in-Some.ensures.steps.0 in
+    let left = subst (All IsValue) more c.loop-value.invariant.left in
+    record {
+      once = dropped c.loop-value.once (into_iter_items c.loop-value.value-iterator) rest _ c.in-Some.value more (sym (c.loop-value.invariant.seen c.in-Some.value) ∙ sym c.contains.ensures ∙ c.if-not-contains.false) c.loop-value.invariant.once;
+      seen = c.loop-value.invariant.seen;
+      kept = c.loop-value.invariant.kept;
+      left = All-tail IsValue c.in-Some.value rest left;
+    }
+
 pub loop-value-preserved : goal.loop-value-preserved
 loop-value-preserved c =
     let rest = into_iter_items c.next.new.self in
