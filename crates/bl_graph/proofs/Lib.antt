@@ -14,3 +14,13 @@ pub mod ValidChanges
 pub mod Taken
 mod ProperRows
 mod OneWay
+mod Named
+mod ByNumber
+mod Places
+mod Totals
+mod Nested
+mod Kept
+mod Steps
+mod Whole
+mod Copies
+mod Counted

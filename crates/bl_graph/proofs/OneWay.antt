@@ -33,10 +33,10 @@ same_values s t same = same_set value_cmp_total exact_values s t same
 none_in : (s : Values) → ((v : Value) → set.contains s v ≡ set.contains (set.empty {R = value_cmp}) v) → set.len s ≡ 0
 none_in s same = ap set.len (same_values s set.empty same) ∙ map.len-empty value_cmp (Unit {0})
 
-abbrev HasSome : Values → Type 0
+abbrev pub HasSome : Values → Type 0
 HasSome values = set.len values ≢ 0
 
-same_at_key : (o p : Option Values) → IfSome o HasSome → IfSome p HasSome → ((v : Value) → set.contains (unwrap_or o set.empty) v ≡ set.contains (unwrap_or p set.empty) v) → o ≡ p
+pub same_at_key : (o p : Option Values) → IfSome o HasSome → IfSome p HasSome → ((v : Value) → set.contains (unwrap_or o set.empty) v ≡ set.contains (unwrap_or p set.empty) v) → o ≡ p
 same_at_key (Some s) (Some t) some some2 same = ap Some (same_values s t same)
 same_at_key (Some s) None some some2 same = absurd (some (none_in s same))
 same_at_key None (Some t) some some2 same = absurd (some2 (none_in t (λ v. sym (same v))))

@@ -7,6 +7,8 @@ use Rattle.bl_outside.specs.OrderedSet as set
 use Rattle.bl_value.specs.declared.value.Value.{Value}
 use Rattle.bl_value.specs.declared.value.Value.TheVariants.{Bool, Byte, Short, Int, Long, Str, Date}
 use Rattle.bl_graph.specs.Graph.{Texts, Values, ByText, Properties, Ends, Graph}
+use Rattle.bl_graph.specs.Numbered.{ByNumber}
+use base.Stored.{coded_unit}
 
 abbrev Numbers : Type 0
 Numbers = ℤ ⊎ (ℤ ⊎ (ℤ ⊎ (ℤ ⊎ ℤ)))
@@ -50,6 +52,12 @@ texts_code = set.code text_code
 
 abbrev pub values_code : Coded Values
 values_code = set.code value_code
+
+abbrev pub numbers_code : Coded (ByNumber (Unit {0}))
+numbers_code = map.code coded_ℕ coded_unit
+
+abbrev pub numbered_code : Coded (ByNumber Values)
+numbered_code = map.code coded_ℕ values_code
 
 abbrev pub keys_code : Coded (ByText Values)
 keys_code = map.code text_code values_code

@@ -6,4 +6,9 @@ pub mod WithRow
 pub mod Sizes
 pub mod ValidGraph
 pub mod ValidChanges
+pub mod Numbered
+pub mod Held
+pub mod Found
+pub mod Owners
+pub mod Grown
 pub mod Codes

@@ -3,9 +3,10 @@ ghost use Rattle.std.specs.Prelude.{◌≡◌, IfOk};
 ghost use Rattle.bl_graph.specs.Admission.{admit, changed, edge_refusal};
 ghost use Rattle.bl_graph.specs.Admitted.{DoesFit, IsProperRow, SaysNothingNew};
 ghost use Rattle.bl_graph.specs.WithRow.{IsTaken};
+ghost use Rattle.bl_graph.specs.Found.{ends_found};
 ghost use Rattle.bl_graph.specs.Graph.{edge_of};
 
-use crate::{Graph, Verdict};
+use crate::{FoundEdge, Graph, Verdict};
 use bl_outside::{List, NoMemory, Text};
 use bl_value::{Change, LogCode, Property, Row, Side};
 
@@ -62,11 +63,13 @@ impl Graph {
     ) -> Result<Verdict, NoMemory>
         ensures { IfOk result (λ verdict. verdict ≡ admit self.now update_single (Row.Vertex id.now labels.now properties.now)) }
     {
-        if let Some(property) = self.conflict(update_single, Side::Vertex, id, properties) {
+        let found = self.vertex(id);
+        let values = &found.values;
+        if let Some(property) = self.conflict(update_single, Side::Vertex, id, values, properties) {
             return Ok(Verdict::Refused(LogCode::SingleConflict, property.column));
         }
-        let mut changes = self.label_changes(id, labels)?;
-        self.push_properties(Side::Vertex, id, properties, &mut changes)?;
+        let mut changes = self.label_changes(id, &found, labels)?;
+        self.push_properties(Side::Vertex, id, values, properties, &mut changes)?;
         Ok(verdict_of(changes))
     }
 
@@ -81,21 +84,31 @@ impl Graph {
     ) -> Result<Verdict, NoMemory>
         ensures { IfOk result (λ verdict. verdict ≡ admit self.now update_single (Row.Edge id.now label.now from.now to.now properties.now)) }
     {
-        if let Some(code) = self.edge_refusal(id, label, from, to) {
+        let found = self.found_edge(id);
+        if let Some(code) = self.edge_refusal(id, &found, label, from, to) {
             return Ok(Verdict::Refused(code, 0));
         }
-        if let Some(property) = self.conflict(update_single, Side::Edge, id, properties) {
+        let values = &found.values;
+        if let Some(property) = self.conflict(update_single, Side::Edge, id, values, properties) {
             return Ok(Verdict::Refused(LogCode::SingleConflict, property.column));
         }
-        let mut changes = self.edge_changes(id, label, from, to)?;
-        self.push_properties(Side::Edge, id, properties, &mut changes)?;
+        let mut changes = self.edge_changes(id, &found, label, from, to)?;
+        self.push_properties(Side::Edge, id, values, properties, &mut changes)?;
         Ok(verdict_of(changes))
     }
 
-    fn edge_refusal(&self, id: &Text, label: &Text, from: &Text, to: &Text) -> Option<LogCode>
+    fn edge_refusal(
+        &self,
+        id: &Text,
+        found: &FoundEdge,
+        label: &Text,
+        from: &Text,
+        to: &Text,
+    ) -> Option<LogCode>
+        requires { ends_found found.now ≡ edge_of self.now id.now }
         ensures { result ≡ edge_refusal self.now (edge_of self.now id.now) label.now from.now to.now }
     {
-        match self.ends(id) {
+        match found.ends {
             Some(ends) if ends.is(label, from, to) => None,
             Some(_) => Some(LogCode::EdgeConflict),
             None if !self.has_vertex(from) => Some(LogCode::FromMissing),

@@ -141,7 +141,7 @@ const VERTICES: [Line; 33] = [
 #[test]
 fn vertices_are_admitted_as_by_the_plain_rules(rt: HostRuntime) {
     for update_single in [false, true] {
-        let mut graph = Graph::empty(rt.alloc());
+        let mut graph = Graph::empty(rt.alloc(), 0);
         let mut facts = Facts::new(rt.alloc());
         for line in VERTICES {
             let same = agree(rt.alloc(), &mut graph, &mut facts, update_single, line);
@@ -265,7 +265,7 @@ const EDGES: [Line; 30] = [
 #[test]
 fn edges_are_admitted_as_by_the_plain_rules(rt: HostRuntime) {
     for update_single in [false, true] {
-        let mut graph = Graph::empty(rt.alloc());
+        let mut graph = Graph::empty(rt.alloc(), 0);
         let mut facts = Facts::new(rt.alloc());
         for line in EDGES {
             let same = agree(rt.alloc(), &mut graph, &mut facts, update_single, line);

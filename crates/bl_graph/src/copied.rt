@@ -1,8 +1,8 @@
 // Copies with memory of their own.
 ghost use Rattle.std.specs.Prelude.{◌≡◌, IfOk};
-ghost use Rattle.bl_graph.specs.Graph.{by_text};
+ghost use Rattle.bl_graph.specs.Numbered.{by_number};
 
-use bl_outside::{NoMemory, Text};
+use bl_outside::NoMemory;
 use std::alloc::Global;
 use std::collections::BTreeMap;
 
@@ -15,13 +15,13 @@ pub trait Copied: Drop {
 /// A copy of all entries.
 pub fn copy_map<V: Copied>(
     alloc: Global,
-    map: &BTreeMap<Text, V>,
-) -> Result<BTreeMap<Text, V>, NoMemory>
-    ensures { IfOk result (λ copy. by_text copy.entries ≡ by_text map.now.entries) }
+    map: &BTreeMap<usize, V>,
+) -> Result<BTreeMap<usize, V>, NoMemory>
+    ensures { IfOk result (λ copy. by_number copy.entries ≡ by_number map.now.entries) }
 {
     let mut copy = BTreeMap::new(alloc);
     for (key, value) in map {
-        copy.insert(key.copy(alloc)?, value.copied(alloc)?)?;
+        copy.insert(*key, value.copied(alloc)?)?;
     }
     Ok(copy)
 }

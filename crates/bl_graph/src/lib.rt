@@ -12,20 +12,23 @@
 
 mod admission;
 mod copied;
-mod edges;
 mod element_changes;
+mod found;
 mod graph;
 mod keyed_values;
 mod laws;
-mod owned_values;
+mod names;
+mod numbered_values;
+mod numbers;
+mod owner;
 mod property_changes;
-mod text_set;
+mod seeded;
+mod tables;
 mod value_set;
 mod verdict;
-mod vertices;
 
 use copied::{Copied, copy_map};
-use edges::{EdgeEnds, Edges};
+use found::{FoundEdge, FoundEnds, FoundKey, FoundLabels, FoundValues, FoundVertex};
 pub use graph::Graph;
 use keyed_values::KeyedValues;
 pub use laws::{
@@ -33,11 +36,17 @@ pub use laws::{
     replay_is_one_fold, valid_changes_keep_values_valid, valid_rows_are_proper,
     valid_rows_give_valid_changes,
 };
-use owned_values::OwnedValues;
-use text_set::TextSet;
-use value_set::ValueSet;
+use names::Names;
+use numbered_values::NumberedValues;
+use numbers::Numbers;
+use owner::{Ends, Owners};
+use seeded::Seeded;
+use tables::Tables;
+use value_set::{ValueSet, is_among};
 pub use verdict::Verdict;
-use vertices::Vertices;
+
+/// So many labels, or values of one owner, stand side by side. More of them are held in order.
+const FEW: usize = 16;
 
 #[cfg(test)]
 mod against_plain;

@@ -1,35 +1,14 @@
 // The values that a row adds, and those that single ones take the place of.
-ghost use Rattle.std.specs.Prelude.{◌≡◌, ◌==◌, ◌++◌, ◌∷◌, [], length, map, filter, not, OnOk};
+ghost use Rattle.std.specs.Prelude.{◌≡◌, ◌++◌, ◌∷◌, [], map, filter, not, OnOk};
 ghost use Rattle.std.specs.List.{flat_map};
 ghost use Rattle.std.specs.Option.{option_copied};
 ghost use Rattle.bl_outside.specs.OrderedSet as set;
 ghost use Rattle.bl_graph.specs.Admission.{added, conflict, conflicts, is_among, property_changes, replaced};
-ghost use Rattle.bl_graph.specs.Graph.{values_at};
+ghost use Rattle.bl_graph.specs.Graph.{keys_in, properties as properties_of, values_at};
 
-use crate::{Graph, ValueSet};
+use crate::{FoundKey, FoundValues, Graph, ValueSet, is_among};
 use bl_outside::{List, NoMemory, Text};
-use bl_value::{Change, Property, Side, Value, compare};
-
-fn is_among(values: &List<Value>, value: &Value) -> bool
-    ensures { result ≡ is_among values.now value.now }
-{
-    values
-        .as_slice()
-        .iter()
-        .any(|other| compare(other, value).is_eq())
-}
-
-// Whether a value other than the given ones is there.
-fn has_other(there: &ValueSet, given: &List<Value>) -> bool
-    ensures { result ≡ not (length (filter (λ value. not (is_among given.now value)) (set.items there.now)) == 0) }
-{
-    for value in there.iter() {
-        if !is_among(given, value) {
-            return true;
-        }
-    }
-    false
-}
+use bl_value::{Change, Property, Side, Value};
 
 impl Graph {
     // The first property whose single value would take the place of another.
@@ -38,44 +17,43 @@ impl Graph {
         update_single: bool,
         side: Side,
         id: &Text,
+        found: &FoundValues,
         properties: &'a List<Property>,
     ) -> Option<&'a Property>
+        requires { found.now ≡ keys_in (properties_of self.now side) id.now }
         ensures { option_copied result ≡ conflict self.now update_single side id.now properties.now }
     {
         if update_single {
             return None;
         }
         for property in properties.as_slice() {
-            if self.conflicts(side, id, property) {
+            if self.conflicts(side, id, &found.at(&property.key), property) {
                 return Some(property);
             }
         }
         None
     }
 
-    fn conflicts(&self, side: Side, id: &Text, property: &Property) -> bool
+    fn conflicts(&self, side: Side, id: &Text, there: &FoundKey, property: &Property) -> bool
+        requires { there.now ≡ values_at self.now side id.now property.now.key }
         ensures { result ≡ conflicts self.now side id.now property.now }
     {
-        if !property.single {
-            return false;
-        }
-        match self.values_at(side, id, &property.key) {
-            Some(there) => has_other(there, &property.values),
-            None => false,
-        }
+        property.single && there.has_other(&property.values)
     }
 
     pub(crate) fn push_properties(
         &self,
         side: Side,
         id: &Text,
+        found: &FoundValues,
         properties: &List<Property>,
         changes: &mut List<Change>,
     ) -> Result<(), NoMemory>
+        requires { found.now ≡ keys_in (properties_of self.now side) id.now }
         ensures { OnOk result (changes.new ≡ changes.old ++ flat_map (property_changes self.now side id.now) properties.now) }
     {
         for property in properties.as_slice() {
-            self.push_property(side, id, property, changes)?;
+            self.push_property(side, id, &found.at(&property.key), property, changes)?;
         }
         Ok(())
     }
@@ -84,31 +62,33 @@ impl Graph {
         &self,
         side: Side,
         id: &Text,
+        there: &FoundKey,
         property: &Property,
         changes: &mut List<Change>,
     ) -> Result<(), NoMemory>
+        requires { there.now ≡ values_at self.now side id.now property.now.key }
         ensures { OnOk result (changes.new ≡ changes.old ++ property_changes self.now side id.now property.now) }
     {
-        self.push_replaced(side, id, property, changes)?;
-        self.push_added(side, id, property, changes)
+        self.push_replaced(side, id, there, property, changes)?;
+        self.push_added(side, id, there, property, changes)
     }
 
     fn push_replaced(
         &self,
         side: Side,
         id: &Text,
+        there: &FoundKey,
         property: &Property,
         changes: &mut List<Change>,
     ) -> Result<(), NoMemory>
+        requires { there.now ≡ values_at self.now side id.now property.now.key }
         ensures { OnOk result (changes.new ≡ changes.old ++ map (λ value. Change.RemoveValue side id.now property.now.key value) (replaced self.now side id.now property.now)) }
     {
-        if !property.single {
+        if !self.conflicts(side, id, there, property) {
             return Ok(());
         }
-        match self.values_at(side, id, &property.key) {
-            Some(there) => self.push_others(side, id, property, there, changes),
-            None => Ok(()),
-        }
+        let ordered = there.ordered(self.allocator())?;
+        self.push_others(side, id, property, &ordered, changes)
     }
 
     // The values that are there, but for the property's own.
@@ -153,13 +133,15 @@ impl Graph {
         &self,
         side: Side,
         id: &Text,
+        there: &FoundKey,
         property: &Property,
         changes: &mut List<Change>,
     ) -> Result<(), NoMemory>
+        requires { there.now ≡ values_at self.now side id.now property.now.key }
         ensures { OnOk result (changes.new ≡ changes.old ++ map (λ value. Change.AddValue side id.now property.now.key value) (added self.now side id.now property.now)) }
     {
         for value in property.values.as_slice() {
-            self.push_value(side, id, &property.key, value, changes)?;
+            self.push_value(side, id, there, &property.key, value, changes)?;
         }
         Ok(())
     }
@@ -168,13 +150,15 @@ impl Graph {
         &self,
         side: Side,
         id: &Text,
+        there: &FoundKey,
         key: &Text,
         value: &Value,
         changes: &mut List<Change>,
     ) -> Result<(), NoMemory>
+        requires { there.now ≡ values_at self.now side id.now key.now }
         ensures { OnOk result (changes.new ≡ changes.old ++ map (λ value. Change.AddValue side id.now key.now value) (filter (λ value. not (set.contains (values_at self.now side id.now key.now) value)) (value.now ∷ []))) }
     {
-        if self.has_value(side, id, key, value) {
+        if there.contains(value) {
             return Ok(());
         }
         changes.push(Change::AddValue {

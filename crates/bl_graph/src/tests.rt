@@ -49,7 +49,7 @@ const FOLDER_OF_TWO: [(Line, Answer); 3] = [
 
 #[test]
 fn a_folder_of_two_files_gives_two_labels_and_then_an_edge(rt: HostRuntime) {
-    let mut graph = Graph::empty(rt.alloc());
+    let mut graph = Graph::empty(rt.alloc(), 0);
     for (line, expected) in FOLDER_OF_TWO {
         let same = answers(rt.alloc(), &mut graph, false, line, expected);
         assert!(rt; same == Ok(true), "{line:?}");
@@ -87,7 +87,7 @@ const SINGLE_VALUES: [(bool, Line, Answer); 5] = [
 
 #[test]
 fn a_single_value_is_refused_or_takes_the_place_of_another(rt: HostRuntime) {
-    let mut graph = Graph::empty(rt.alloc());
+    let mut graph = Graph::empty(rt.alloc(), 0);
     for (update_single, line, expected) in SINGLE_VALUES {
         let same = answers(rt.alloc(), &mut graph, update_single, line, expected);
         assert!(rt; same == Ok(true), "{update_single} {line:?}");
@@ -116,7 +116,7 @@ const EDGE_ERRORS: [(Line, Answer); 4] = [
 
 #[test]
 fn an_edge_is_added_or_refused(rt: HostRuntime) {
-    let mut graph = Graph::empty(rt.alloc());
+    let mut graph = Graph::empty(rt.alloc(), 0);
     for (line, expected) in EDGE_ERRORS {
         let same = answers(rt.alloc(), &mut graph, false, line, expected);
         assert!(rt; same == Ok(true), "{line:?}");

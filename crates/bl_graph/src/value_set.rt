@@ -1,16 +1,26 @@
 // A set of values.
-ghost use Rattle.std.specs.Prelude.{◌≡◌, ◌==◌, IfOk, OnOk, OnErr};
+ghost use Rattle.std.specs.Prelude.{◌≡◌, ◌==◌, length, filter, not, IfOk, OnOk, OnErr};
 ghost use Rattle.bl_outside.specs.OrderedSet as set;
+ghost use Rattle.bl_graph.specs.Admission.{is_among};
 
 use crate::Copied;
-use bl_outside::NoMemory;
-use bl_value::Value;
+use bl_outside::{List, NoMemory};
+use bl_value::{Value, compare};
 use std::alloc::Global;
 use std::collections::BTreeSet;
 use std::collections::btree_set::Iter;
 use std::marker::Model;
 
-/// Values, each once.
+pub fn is_among(values: &List<Value>, value: &Value) -> bool
+    ensures { result ≡ is_among values.now value.now }
+{
+    values
+        .as_slice()
+        .iter()
+        .any(|other| compare(other, value).is_eq())
+}
+
+/// Values, each once, in order.
 #[derive(Drop)]
 pub struct ValueSet {
     values: BTreeSet<Value>,
@@ -76,6 +86,18 @@ impl ValueSet {
         ensures { result ≡ (set.len self.now == 0) }
     {
         self.values.len() == 0
+    }
+
+    /// Whether a value other than the given ones is there.
+    pub fn has_other(&self, given: &List<Value>) -> bool
+        ensures { result ≡ not (length (filter (λ value. not (is_among given.now value)) (set.items self.now)) == 0) }
+    {
+        for value in self.iter() {
+            if !is_among(given, value) {
+                return true;
+            }
+        }
+        false
     }
 
     /// The values in order.

@@ -6,9 +6,7 @@ use Rattle.bl_graph.proofs.Validity.{valid_empty}
 use Rattle.bl_graph.proofs.graph.Graph.empty.Goals as goal
 
 pub returns-clause-valid : goal.returns-clause-valid
-returns-clause-valid c =
-    subst IsValidGraph (λ i. record { labels = sym c.new.ensures i; edges = sym c.new-2.ensures i; vertex_values = sym c.new-3.ensures i; edge_values = sym c.new-4.ensures i }) valid_empty
+returns-clause-valid c = subst IsValidGraph (sym c.nothing.ensures) valid_empty
 
 pub returns-clause-values : goal.returns-clause-values
-returns-clause-values c =
-    subst HasValidValues (λ i. record { labels = sym c.new.ensures i; edges = sym c.new-2.ensures i; vertex_values = sym c.new-3.ensures i; edge_values = sym c.new-4.ensures i }) values_of_empty
+returns-clause-values c = subst HasValidValues (sym c.nothing.ensures) values_of_empty
