@@ -6,8 +6,17 @@ ghost use Rattle.serde_json.specs.View.{view, members_view};
 ghost use Rattle.bl_value.specs.declared.value.Value.TheVariants.{Str};
 ghost use Rattle.bl_value.specs.Valid.{IsPrintable, IsPrintableValue};
 ghost use Rattle.bl_change.specs.EventText.{
-    data_type, typed_data, property_type, element_data, edge_data, change_data, op_name,
-    place_data, record_data, event_data, event_text
+  data_type,
+  typed_data,
+  property_type,
+  element_data,
+  edge_data,
+  change_data,
+  op_name,
+  place_data,
+  record_data,
+  event_data,
+  event_text,
 };
 
 use crate::Event;

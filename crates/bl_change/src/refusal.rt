@@ -1,7 +1,7 @@
 // Why a text is no event.
 ghost use Rattle.std.specs.Prelude.{◌≡◌};
 ghost use Rattle.bl_change.specs.declared.refusal.EventRefusal.TheVariants.{
-    NoMemory as out_of_memory
+  NoMemory as out_of_memory,
 };
 
 use bl_outside::NoMemory;
