@@ -7,12 +7,14 @@ ghost use Rattle.bl_value.specs.Valid.{IsChange};
 ghost use Rattle.bl_graph.specs.ValidChanges.{HasValidValues};
 ghost use Rattle.bl_job.specs.Batched.{AreValidRows};
 ghost use Rattle.bl_journal.specs.Journals.{IsAtEnd};
+ghost use Rattle.bl_rows.specs.File.{IsSmall};
 
+use crate::counts::Counts;
 use crate::drill_files::{edges_file, vertices_file};
+use crate::rows::columns_of;
 use bl_entry::{Entry, encode};
 use bl_files::{LoadRequest, Mode};
 use bl_graph::Graph;
-use bl_header::read_header;
 use bl_job::{BatchResult, batch};
 use bl_journal::Journal;
 use bl_outside::{Digest, Disk, Faults, List, MemoryDisk, Text};
@@ -146,7 +148,13 @@ impl Drill {
 
 impl Drill {
     // Admits the rows, and appends the entry of what they came to.
-    fn commit(&mut self, request: &LoadRequest, from: u64, rows: &List<DigestRow>, digest: Digest) -> Option<()>
+    fn commit(
+        &mut self,
+        request: &LoadRequest,
+        from: u64,
+        rows: &List<DigestRow>,
+        digest: Digest,
+    ) -> Option<()>
         requires few { length rows.now ≤ 1000 }
         requires rows { AreValidRows rows.now }
         requires values { HasValidValues self.old.graph }
@@ -163,14 +171,14 @@ impl Drill {
 
     // Takes the records of a file, batch by batch.
     fn load(&mut self, request: &LoadRequest, file: FileBytes) -> Option<()>
-        requires file { length file.bytes ≤ 268435456 }
+        requires file { IsSmall file.bytes }
         requires values { HasValidValues self.old.graph }
         requires at_end { IsAtEnd ⟦<MemoryDisk as Disk>⟧ self.old.journal }
         ensures values { OnSome result (HasValidValues self.new.graph) }
         ensures at_end { OnSome result (IsAtEnd ⟦<MemoryDisk as Disk>⟧ self.new.journal) }
     {
         let mut reader = start(self.alloc, file).ok()?;
-        let columns = read_header(self.alloc, reader.header()).ok()?;
+        let columns = columns_of(self.alloc, &reader)?;
         for _ in 0..u64::MAX {
             let from = reader.taken();
             let rows = next_rows(self.alloc, &columns, &mut reader)?;
@@ -180,6 +188,21 @@ impl Drill {
             self.commit(request, from, &rows, reader.digest())?;
         }
         Some(())
+    }
+}
+
+impl Drill {
+    // The same of a file that is yet to be weighed.
+    fn load_text(&mut self, request: &LoadRequest, bytes: Text) -> Option<()>
+        requires values { HasValidValues self.old.graph }
+        requires at_end { IsAtEnd ⟦<MemoryDisk as Disk>⟧ self.old.journal }
+        ensures values { OnSome result (HasValidValues self.new.graph) }
+        ensures at_end { OnSome result (IsAtEnd ⟦<MemoryDisk as Disk>⟧ self.new.journal) }
+    {
+        if bytes.len() > FILE_LIMIT {
+            return None;
+        }
+        self.load(request, FileBytes { bytes })
     }
 }
 
@@ -193,9 +216,24 @@ pub fn drill(alloc: Global, rows: u64) -> Option<Drilled> {
     let vertices = rows / 2;
     let request = request(alloc)?;
     let mut drill = Drill::new(alloc)?;
-    load_text(&mut drill, &request, vertices_file(alloc, vertices).ok()?)?;
-    load_text(&mut drill, &request, edges_file(alloc, rows - vertices, vertices).ok()?)?;
+    drill.load_text(&request, vertices_file(alloc, vertices).ok()?)?;
+    drill.load_text(&request, edges_file(alloc, rows - vertices, vertices).ok()?)?;
     drill.done.bytes = drill.journal.place();
     drill.done.sizes = drill.graph.sizes();
     Some(drill.done)
+}
+
+/// Makes the two files of so many rows together, and counts the rows and the bytes.
+pub fn files(alloc: Global, rows: u64) -> Option<Counts> {
+    let count = u32::try_from(rows).ok()?;
+    if count < 2 {
+        return None;
+    }
+    let vertices = count / 2;
+    let one = vertices_file(alloc, vertices).ok()?;
+    let other = edges_file(alloc, count - vertices, vertices).ok()?;
+    Some(Counts {
+        items: rows,
+        bytes: (one.len() as u64).checked_add(other.len() as u64)?,
+    })
 }

@@ -20,15 +20,14 @@ fn push_vertex(alloc: Global, file: &mut Text, number: u64) -> Result<(), NoMemo
 
 // The edge of this number, as it stands in the file: of each hundred the last but one is the one
 // before it again, and the last goes to a vertex that isn't there.
-fn push_edge(
-    alloc: Global,
-    file: &mut Text,
-    number: u64,
-    vertices: u64,
-) -> Result<(), NoMemory>
+fn push_edge(alloc: Global, file: &mut Text, number: u64, vertices: u64) -> Result<(), NoMemory>
     requires { 1 ≤ vertices }
 {
-    let edge = if number % 100 == 98 { number - 1 } else { number };
+    let edge = if number % 100 == 98 {
+        number - 1
+    } else {
+        number
+    };
     let from = edge % vertices;
     let day = 1 + edge % 28;
     let row = if number % 100 == 99 {
