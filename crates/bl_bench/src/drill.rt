@@ -96,16 +96,16 @@ fn entry_bytes(alloc: Global, from: u64, digest: Digest, made: BatchResult) -> O
 
 /// A graph, the journal of its batches, and what was done.
 #[derive(Drop)]
-struct Drill {
+struct Drilling {
     alloc: Global,
     graph: Graph,
     journal: Journal<MemoryDisk>,
     done: Drilled,
 }
 
-impl Drill {
+impl Drilling {
     // A journal without entries, at whose end batches may be appended.
-    fn new(alloc: Global) -> Option<Drill>
+    fn new(alloc: Global) -> Option<Drilling>
         ensures values { IfSome result (λ it. HasValidValues it.graph) }
         ensures at_end { IfSome result (λ it. IsAtEnd ⟦<MemoryDisk as Disk>⟧ it.journal) }
     {
@@ -116,7 +116,7 @@ impl Drill {
         let Ok(None) = journal.next() else {
             return None;
         };
-        Some(Drill {
+        Some(Drilling {
             alloc,
             graph: Graph::empty(alloc, 0),
             journal,
@@ -146,7 +146,7 @@ impl Drill {
     }
 }
 
-impl Drill {
+impl Drilling {
     // Admits the rows, and appends the entry of what they came to.
     fn commit(
         &mut self,
@@ -191,7 +191,7 @@ impl Drill {
     }
 }
 
-impl Drill {
+impl Drilling {
     // The same of a file that is yet to be weighed.
     fn load_text(&mut self, request: &LoadRequest, bytes: Text) -> Option<()>
         requires values { HasValidValues self.old.graph }
@@ -215,7 +215,7 @@ pub fn drill(alloc: Global, rows: u64) -> Option<Drilled> {
     }
     let vertices = rows / 2;
     let request = request(alloc)?;
-    let mut drill = Drill::new(alloc)?;
+    let mut drill = Drilling::new(alloc)?;
     drill.load_text(&request, vertices_file(alloc, vertices).ok()?)?;
     drill.load_text(&request, edges_file(alloc, rows - vertices, vertices).ok()?)?;
     drill.done.bytes = drill.journal.place();

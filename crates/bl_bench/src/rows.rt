@@ -50,7 +50,7 @@ pub fn records(alloc: Global, records: u64) -> Option<Counts> {
     let file = file_of(alloc, records).ok()?;
     let mut reader = ReaderBuilder::new()
         .has_headers(false)
-        .from_reader(alloc, Cursor::new(file.into_vec()));
+        .from_reader(alloc, Cursor::new(file.into_vec().ok()?));
     let mut row = ByteRecord::new(alloc);
     let mut bytes: u64 = 0;
     reader.read_byte_record(&mut row).ok()?;
