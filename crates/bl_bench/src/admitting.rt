@@ -22,7 +22,7 @@ impl Admitting {
         ensures { result.rows ≡ 0 }
     {
         Admitting {
-            graph: Graph::empty(alloc),
+            graph: Graph::empty(alloc, 0),
             rows: 0,
             changes: 0,
             duplicates: 0,

@@ -40,7 +40,7 @@ impl Loaded {
         ensures { result ≡ nothing }
     {
         Loaded {
-            graph: Graph::empty(alloc),
+            graph: Graph::empty(alloc, 0),
             changes: List::new(alloc),
             records: 0,
             duplicates: 0,

@@ -149,7 +149,7 @@ fn is_expected(made: &BatchResult, graph: &Graph, case: &Case) -> bool {
 
 // Whether the batch comes to what is expected of it. None where memory ran out.
 fn comes_out(alloc: Global, case: &Case) -> Option<bool> {
-    let mut graph = Graph::empty(alloc);
+    let mut graph = Graph::empty(alloc, 0);
     let before = rows(alloc, case.before).ok()?;
     taken(alloc, &mut graph, false, false, &before)?;
     let lines = rows(alloc, case.lines).ok()?;
@@ -207,7 +207,7 @@ fn rows_with_a_bad_one(alloc: Global) -> Result<List<DigestRow>, NoMemory> {
 #[test]
 fn a_load_that_fails_on_an_error_stops_before_row_1001(rt: HostRuntime) {
     let rows = rows_with_a_bad_one(rt.alloc()).expect(&rt, "memory");
-    let mut graph = Graph::empty(rt.alloc());
+    let mut graph = Graph::empty(rt.alloc(), 0);
     let made = taken(rt.alloc(), &mut graph, true, false, &rows).expect(&rt, "memory");
     assert_eq!(rt; (made.rows, made.duplicates), (1000, 0));
     assert_eq!(rt; made.changes.len(), 2000);
@@ -220,7 +220,7 @@ fn a_load_that_fails_on_an_error_stops_before_row_1001(rt: HostRuntime) {
 #[test]
 fn another_load_logs_row_1001_and_goes_on(rt: HostRuntime) {
     let rows = rows_with_a_bad_one(rt.alloc()).expect(&rt, "memory");
-    let mut graph = Graph::empty(rt.alloc());
+    let mut graph = Graph::empty(rt.alloc(), 0);
     let made = taken(rt.alloc(), &mut graph, false, false, &rows).expect(&rt, "memory");
     assert_eq!(rt; (made.rows, made.duplicates), (1002, 0));
     assert_eq!(rt; made.changes.len(), 2002);
