@@ -1,8 +1,8 @@
 -- How many there are of what is said.
-use Rattle.std.specs.Prelude.{◌≡◌, ℕ, ◌+◌, ◌-◌, ◌<◌, ◌≤◌, ◌==◌, nat_eq, nat_lt, Bool, true, false, not, cond, if◌then◌else◌, List, [], ◌∷◌, length, slice_get, Some, None, is_some, refl}
+use Rattle.std.specs.Prelude.{◌≡◌, ℕ, ◌+◌, ◌<◌, ◌≤◌, ◌==◌, nat_eq, nat_lt, Bool, true, false, not, cond, if◌then◌else◌, List, [], ◌∷◌, length, Some, None, is_some, refl}
 use Rattle.std.specs.declared.option.Option.{Option}
 use Rattle.std.specs.Option.{unwrap_or, option_map}
-use Rattle.std.proofs.Common.{sym, ap, subst, ◌∙◌, get_or, arith, suc, zero-add}
+use Rattle.std.proofs.Common.{sym, ap, subst, ◌∙◌, arith, zero-add}
 use Rattle.std.proofs.lemmas.Bool.{false≢true, eqb-true, ltb-true, ltb-false}
 use Rattle.std.proofs.lemmas.Option.{slice_get-get_or}
 use Rattle.std.proofs.lemmas.Map.Keys.{IsDistinct-head, IsDistinct-tail}
@@ -15,13 +15,12 @@ use Rattle.std.specs.FinMap as map
 use Rattle.std.specs.FinMap.{nat_cmp-IsAntisymmetric}
 use Rattle.std.proofs.lemmas.Map.Lookups.{exact_bytes}
 use Rattle.bl_outside.specs.OrderedSet as set
-use Rattle.bl_value.specs.Order.{value_cmp}
 use Rattle.bl_graph.specs.declared.owner.Owner.{Owner}
 use Rattle.bl_graph.specs.declared.owner.Ends.{Ends as EndNumbers}
-use Rattle.bl_graph.specs.Graph.{ByText, Ends, Values}
+use Rattle.bl_graph.specs.Graph.{ByText, Values}
 use Rattle.bl_graph.specs.Sizes.{total, count_in}
 use Rattle.bl_graph.specs.Numbered.{ByNumber, written, filled, named, named_from, values_count, IsBelow}
-use Rattle.bl_graph.specs.Owners.{AreWithin, Vertex, Edge, ends_at, ends_of, ends_said, found, kept, labels_said, owner_at, values_said}
+use Rattle.bl_graph.specs.Owners.{AreWithin, Vertex, ends_at, ends_of, found, kept, labels_said, owner_at, values_said}
 use Rattle.bl_graph.proofs.Maps.{itself}
 use Rattle.bl_graph.proofs.Kept.{remove_none, some_filled}
 use Rattle.bl_graph.proofs.Named.{equal_texts, get_from, get_written, named_empty, number_from, reached}

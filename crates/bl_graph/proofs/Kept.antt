@@ -1,12 +1,11 @@
 -- What is said of ids, and what becomes of it.
-use Rattle.std.specs.Prelude.{◌≡◌, ℕ, ◌+◌, ◌<◌, ◌≤◌, ◌==◌, nat_eq, Bool, true, false, not, ◌&&◌, cond, if◌then◌else◌, List, [], ◌∷◌, ◌++◌, length, slice_get, position, Some, None, is_some, refl}
+use Rattle.std.specs.Prelude.{◌≡◌, ℕ, ◌+◌, ◌<◌, ◌≤◌, ◌==◌, nat_eq, Bool, true, false, not, ◌&&◌, cond, if◌then◌else◌, List, [], ◌∷◌, ◌++◌, length, slice_get, Some, None, is_some, refl}
 use Rattle.std.specs.declared.option.Option.{Option}
 use Rattle.std.specs.declared.cmp.Ordering.{Ordering}
-use Rattle.std.specs.Option.{unwrap_or, option_map}
-use Rattle.std.proofs.Common.{sym, ap, subst, ◌∙◌, get_or, arith}
-use Rattle.std.proofs.lemmas.Bool.{false≢true, eqb-true}
+use Rattle.std.specs.Option.{unwrap_or}
+use Rattle.std.proofs.Common.{sym, ap, subst, ◌∙◌, arith}
+use Rattle.std.proofs.lemmas.Bool.{eqb-true}
 use Rattle.std.proofs.lemmas.List.{length-append, length-map}
-use Rattle.std.proofs.lemmas.List.Quantifiers.{position-Some}
 use Rattle.std.proofs.lemmas.Option.{slice_get-get_or}
 use Rattle.std.proofs.Math.ListN.{get_or-append}
 use Rattle.std.specs.Map.{keys_of}
@@ -21,12 +20,12 @@ use Rattle.bl_value.specs.Order.{value_cmp}
 use Rattle.bl_value.specs.declared.value.Value.{Value}
 use Rattle.bl_graph.specs.declared.owner.Owner.{Owner}
 use Rattle.bl_graph.specs.declared.owner.Ends.{Ends as EndNumbers}
-use Rattle.bl_graph.specs.Graph.{Graph, ByText, Ends, Texts, Values, Properties, at_key, keys_in}
+use Rattle.bl_graph.specs.Graph.{ByText, Values, at_key, keys_in}
 use Rattle.bl_graph.specs.Replay.{with_values_in}
-use Rattle.bl_graph.specs.Numbered.{ByNumber, written, filled, named, at_number, IsFront, IsBelow}
+use Rattle.bl_graph.specs.Numbered.{ByNumber, written, filled, named, IsFront, IsBelow}
 use Rattle.bl_graph.specs.Owners.{AreSame, AreWithin, IsSound, Vertex, Edge, bare, no_vertex, no_edge, found, owner_at, kept, labels_said, values_said, ends_said, ends_at, ends_of, graph_of}
-use Rattle.bl_graph.proofs.Maps.{set_with, with_values_is, with_keys_is}
-use Rattle.bl_graph.proofs.Named.{get_written, named_grown, below_more, empty_named, equal_texts}
+use Rattle.bl_graph.proofs.Maps.{with_values_is, with_keys_is}
+use Rattle.bl_graph.proofs.Named.{get_written, named_grown, below_more, empty_named}
 use Rattle.bl_graph.proofs.ValueOrder.{value_cmp_total, exact_values}
 
 -- an empty map says nothing, and a filled one is itself

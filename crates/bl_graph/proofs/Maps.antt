@@ -7,7 +7,7 @@ use Rattle.std.proofs.Common.{sym, ap, ◌∙◌, cond, if◌then◌else◌, ari
 use Rattle.std.proofs.lemmas.Bool.{false≢true}
 use Rattle.std.specs.Ordering.{nat_cmp, eq_by_cmp, is_eq}
 use Rattle.std.specs.Cmp.{IsTotalOrder, tied_itself}
-use Rattle.std.specs.Cmp.Lexicographic.{slice_cmp, nat_list_cmp_total}
+use Rattle.std.specs.Cmp.Lexicographic.{slice_cmp}
 use Rattle.std.specs.FinMap as map
 use Rattle.bl_outside.specs.OrderedSet as set
 use borrow.Author.Tests.{eqb-true}

@@ -1,10 +1,10 @@
 -- Values that were given one by one, each with its number.
-use Rattle.std.specs.Prelude.{◌≡◌, ◌≢◌, ℕ, ◌+◌, ◌-◌, ◌^◌, min, ◌==◌, nat_eq, Bool, true, false, not, ◌||◌, ◌&&◌, cond, if◌then◌else◌, List, [], ◌∷◌, ◌++◌, ◌<◌, length, filter, take, Some, None, IfSome, is_some, refl}
+use Rattle.std.specs.Prelude.{◌≡◌, ℕ, ◌+◌, ◌-◌, ◌^◌, min, ◌==◌, nat_eq, Bool, true, false, not, ◌||◌, ◌&&◌, cond, if◌then◌else◌, List, [], ◌∷◌, ◌++◌, ◌<◌, length, filter, take, Some, None, IfSome, is_some, refl}
 use Rattle.std.specs.declared.option.Option.{Option}
 use Rattle.std.specs.Option.{unwrap_or, option_map}
 use Rattle.std.proofs.Common.{sym, ap, subst, ◌∙◌, arith, suc, get_or}
 use Rattle.std.proofs.lemmas.List.{take_more}
-use Rattle.std.proofs.lemmas.Bool.{false≢true, eqb-true, eq-eqb}
+use Rattle.std.proofs.lemmas.Bool.{false≢true, eqb-true}
 use Rattle.std.proofs.lemmas.List.Folds.{list_any-append}
 use Rattle.std.proofs.lemmas.Map.Views.{any-filter_same}
 use Rattle.std.specs.List.{list_any}
@@ -19,7 +19,7 @@ use Rattle.bl_value.specs.declared.value.Value.{Value}
 use Rattle.bl_graph.specs.Graph.{Values}
 use Rattle.bl_graph.specs.Numbered.{ByNumber, AreOnce, at_number, filled, nested, values_count, written}
 use Rattle.bl_graph.specs.Admission.{is_among}
-use Rattle.bl_graph.proofs.Maps.{set_with, unless_zero}
+use Rattle.bl_graph.proofs.Maps.{set_with}
 use Rattle.bl_graph.proofs.Named.{get_written}
 use Rattle.bl_graph.proofs.OneWay.{HasSome, same_at_key}
 use Rattle.bl_graph.proofs.Totals.{total_put_at, total_at, any_insert, any_left, none_counted}

@@ -1,21 +1,19 @@
 -- The places of ids.
-use Rattle.std.specs.Prelude.{◌≡◌, ℕ, ◌+◌, ◌<◌, ◌==◌, nat_eq, Bool, true, false, cond, List, [], ◌∷◌, ◌++◌, length, slice_get, position, Some, None, IfSome, is_some, refl}
+use Rattle.std.specs.Prelude.{◌≡◌, ℕ, nat_eq, Bool, true, false, cond, List, [], ◌∷◌, ◌++◌, length, slice_get, position, Some, None, IfSome, is_some, refl}
 use Rattle.std.specs.declared.option.Option.{Option}
 use Rattle.std.specs.Option.{unwrap_or, option_map}
-use Rattle.std.proofs.Common.{sym, ap, subst, ◌∙◌, get_or, arith, zero, suc}
+use Rattle.std.proofs.Common.{sym, ap, subst, ◌∙◌, get_or, zero, suc}
 use Rattle.std.proofs.lemmas.Bool.{false≢true}
 use Rattle.std.proofs.lemmas.Option.{slice_get-get_or, get_or_from_slice_get}
 use Rattle.std.proofs.lemmas.List.Quantifiers.{position-Some}
-use Rattle.std.specs.List.{IsDistinct, position_or_len}
-use Rattle.std.specs.Map.{keys_of, values_of, lookup}
+use Rattle.std.specs.List.{position_or_len}
+use Rattle.std.specs.Map.{keys_of, values_of}
 use Rattle.std.specs.Cmp.Lexicographic.{pointwise, nat_list_eq_equiv}
-use Rattle.std.specs.FinMap as map
-use Rattle.indexmap.specs.IndexMap.{IndexMap, IsUnique, with_value_at, insert_entry, get}
+use Rattle.indexmap.specs.IndexMap.{IndexMap, IsUnique, with_value_at, insert_entry}
 use Rattle.indexmap.proofs.CallerLemmas.{updates-with_value_at, keys-with_value_at, insert_entry-new}
 use Rattle.indexmap.proofs.MapLemmas.{absent_from_lookup, or_len-absent}
-use Rattle.bl_graph.specs.declared.owner.Owner.{Owner}
 use Rattle.bl_graph.specs.Numbered.{IsFront}
-use Rattle.bl_graph.specs.Owners.{AreSame, IsPlace, IsSet, bare, found, owner_at}
+use Rattle.bl_graph.specs.Owners.{AreSame, IsPlace, IsSet, found, owner_at}
 use Rattle.bl_graph.proofs.Named.{equal_texts}
 
 same_self : (id : List ℕ) → pointwise nat_eq id id ≡ true

@@ -1,5 +1,5 @@
 -- The changes of a graph, by the numbers of its texts.
-use Rattle.std.specs.Prelude.{◌≡◌, ℕ, ◌<◌, ◌==◌, nat_eq, Bool, true, false, cond, if◌then◌else◌, List, [], length, slice_get, position, Some, None, IfSome, refl}
+use Rattle.std.specs.Prelude.{◌≡◌, ℕ, ◌<◌, nat_eq, Bool, true, false, cond, if◌then◌else◌, List, [], length, slice_get, position, Some, None, IfSome, refl}
 use Rattle.std.specs.declared.option.Option.{Option}
 use Rattle.std.specs.Option.{unwrap_or, option_map}
 use Rattle.std.proofs.Common.{sym, ap, subst, ◌∙◌, get_or}
@@ -12,15 +12,14 @@ use Rattle.std.specs.Cmp.Lexicographic.{pointwise, nat_list_cmp_total}
 use Rattle.std.specs.FinMap as map
 use Rattle.bl_outside.specs.OrderedSet as set
 use Rattle.bl_value.specs.declared.value.Value.{Value}
-use Rattle.bl_value.specs.declared.column.Side.{Side}
 use Rattle.bl_value.specs.declared.column.Side.TheVariants.{Vertex as vertex, Edge as edge}
 use Rattle.bl_value.specs.declared.change.Change.TheVariants.{AddLabel, AddEdge, AddValue, RemoveValue}
 use Rattle.bl_graph.specs.declared.owner.Owner.{Owner}
 use Rattle.bl_graph.specs.declared.owner.Ends.{Ends as EndNumbers}
-use Rattle.bl_graph.specs.Graph.{Graph, ByText, Ends, Texts, Values, at_key, keys_in, labels_of}
+use Rattle.bl_graph.specs.Graph.{Values, at_key, keys_in}
 use Rattle.bl_graph.specs.Replay.{after_one, with_values_in}
 use Rattle.bl_graph.specs.Numbered.{ByNumber, written, filled, named, at_number, IsBelow}
-use Rattle.bl_graph.specs.Owners.{AreSame, AreWithin, IsPlace, IsSet, IsSound, Vertex, Edge, bare, no_vertex, no_edge, found, owner_at, kept, labels_said, values_said, ends_said, ends_at, ends_of, graph_of, with_label, with_ends, with_value, without_value}
+use Rattle.bl_graph.specs.Owners.{AreWithin, IsPlace, IsSet, IsSound, Vertex, Edge, bare, no_vertex, no_edge, found, owner_at, kept, labels_said, values_said, ends_said, ends_at, ends_of, graph_of, with_label, with_ends, with_value, without_value}
 use Rattle.bl_graph.proofs.Maps.{set_with}
 use Rattle.bl_graph.proofs.Named.{named_written, named_at, named_missing, none_named, below_written, equal_texts}
 use Rattle.bl_graph.proofs.Kept.{get_kept, kept_written, kept_same, refilled, no_labels, no_values, keys_said, values_written, removed_none, keys_length}

@@ -2,13 +2,13 @@
 use Rattle.std.specs.Prelude.{◌≡◌, ℕ, List, [], ◌++◌, OnOk, OnErr}
 use Rattle.std.specs.declared.result.Result.{Result}
 use Rattle.std.specs.declared.result.Result.TheVariants.{Ok, Err}
-use Rattle.std.proofs.Common.{sym, ap, ◌∙◌, append_assoc}
+use Rattle.std.proofs.Common.{ap, ◌∙◌, append_assoc}
 use Rattle.std.specs.Map.{keys_of}
 use Rattle.bl_graph.specs.declared.tables.Tables.{Tables}
 use Rattle.bl_graph.specs.Graph.{Graph}
 use Rattle.bl_graph.specs.Grown.{IsGrown}
 use Rattle.bl_graph.specs.Numbered.{IsFront}
-use Rattle.bl_graph.specs.Owners.{AreSame, IsSound, graph_of, owner_at}
+use Rattle.bl_graph.specs.Owners.{AreSame, IsSound, graph_of}
 use Rattle.bl_graph.proofs.Kept.{graph_grown, sound_grown}
 use Rattle.bl_graph.proofs.Named.{below_empty}
 

@@ -1,12 +1,12 @@
 // Admission against the plain one, row by row.
 use crate::plain_admission::Facts;
-use crate::test_rows::{ANN, At, BOB, Given, Line, is_same_verdict, row, text};
+use crate::test_rows::{ANN, At, BOB, Given, Line, Step, change, is_same_verdict, row, text};
 use crate::{Graph, Verdict};
 use bl_outside::NoMemory;
-use bl_value::LogCode;
+use bl_value::{LogCode, Side};
 use std::alloc::Global;
 
-const IDS: [&str; 9] = ["v1", "v2", "v3", "v9", "e1", "e2", "e3", "e4", ""];
+const IDS: [&str; 10] = ["v1", "v2", "v3", "v9", "e1", "e2", "e3", "e4", "name", ""];
 
 fn have_same_ids(alloc: Global, graph: &Graph, facts: &Facts) -> Result<bool, NoMemory> {
     for id in IDS {
@@ -269,6 +269,164 @@ fn edges_are_admitted_as_by_the_plain_rules(rt: HostRuntime) {
         let mut facts = Facts::new(rt.alloc());
         for line in EDGES {
             let same = agree(rt.alloc(), &mut graph, &mut facts, update_single, line);
+            assert!(rt; same == Ok(true), "{update_single} {line:?}");
+        }
+    }
+}
+
+const LETTERS: [&str; 16] = [
+    "a", "b", "c", "d", "e", "f", "g", "h", "i", "j", "k", "l", "m", "n", "o", "p",
+];
+
+// Fifteen values, none of which is 15 or more.
+const NUMBERS: [Given; 15] = [
+    Given::Int(14),
+    Given::Int(3),
+    Given::Int(0),
+    Given::Int(7),
+    Given::Int(1),
+    Given::Int(13),
+    Given::Int(2),
+    Given::Int(12),
+    Given::Int(4),
+    Given::Int(11),
+    Given::Int(5),
+    Given::Int(10),
+    Given::Int(6),
+    Given::Int(9),
+    Given::Int(8),
+];
+
+// One key each, with a value of its own.
+const KEYS: [At; 15] = [
+    At::Single("a", Given::Int(1)),
+    At::Single("b", Given::Int(2)),
+    At::Single("c", Given::Int(3)),
+    At::Single("d", Given::Int(4)),
+    At::Single("e", Given::Int(5)),
+    At::Single("f", Given::Int(6)),
+    At::Single("g", Given::Int(7)),
+    At::Single("h", Given::Int(8)),
+    At::Single("i", Given::Int(9)),
+    At::Single("j", Given::Int(10)),
+    At::Single("k", Given::Int(11)),
+    At::Single("l", Given::Int(12)),
+    At::Single("m", Given::Int(13)),
+    At::Single("n", Given::Int(14)),
+    At::Single("o", Given::Int(15)),
+];
+
+// Few of one vertex or edge, and many: where the sixteenth comes, and the seventeenth.
+const CROWDS: [Line; 24] = [
+    // labels
+    Line::Vertex("v1", &LETTERS, &[]),
+    Line::Vertex("v1", &LETTERS, &[]),
+    Line::Vertex("v1", &["p", "q"], &[]),
+    Line::Vertex("v1", &["q", "a", "r"], &[]),
+    Line::Vertex("v1", &LETTERS, &[]),
+    // values of one key
+    Line::Vertex("v2", &[], &[At::Set("x", &NUMBERS)]),
+    Line::Vertex("v2", &[], &[At::Set("x", &[Given::Int(15)])]),
+    Line::Vertex("v2", &[], &[At::Set("x", &NUMBERS)]),
+    Line::Vertex("v2", &[], &[At::Set("x", &[Given::Int(16), Given::Int(3)])]),
+    Line::Vertex("v2", &[], &[At::Set("x", &[Given::Int(17)])]),
+    Line::Vertex("v2", &[], &[At::Set("x", &NUMBERS)]),
+    // all of them but one are replaced, and all of them
+    Line::Vertex("v2", &[], &[At::Single("x", Given::Int(4))]),
+    Line::Vertex("v2", &[], &[At::Set("x", &NUMBERS)]),
+    Line::Vertex("v2", &[], &[At::Single("x", Given::Word("4"))]),
+    Line::Vertex("v2", &[], &[At::Single("x", Given::Int(4))]),
+    // keys, of a vertex and of an edge
+    Line::Vertex("v3", &[], &KEYS),
+    Line::Vertex("v3", &[], &[At::Single("p", Given::Int(16))]),
+    Line::Vertex("v3", &[], &[At::Single("q", Given::Int(17))]),
+    Line::Vertex("v3", &[], &KEYS),
+    Line::Vertex("v3", &[], &[At::Single("a", Given::Int(0))]),
+    Line::Edge("e1", "v1", "v2", "to", &KEYS),
+    Line::Edge("e1", "v1", "v2", "to", &[At::Single("p", ANN)]),
+    Line::Edge("e1", "v1", "v2", "to", &[At::Single("q", ANN)]),
+    Line::Edge("e1", "v1", "v2", "to", &[At::Single("p", BOB)]),
+];
+
+#[test]
+fn crowds_are_admitted_as_by_the_plain_rules(rt: HostRuntime) {
+    for update_single in [false, true] {
+        let mut graph = Graph::empty(rt.alloc(), 0);
+        let mut facts = Facts::new(rt.alloc());
+        for line in CROWDS {
+            let same = agree(rt.alloc(), &mut graph, &mut facts, update_single, line);
+            assert!(rt; same == Ok(true), "{update_single} {line:?}");
+        }
+    }
+}
+
+// Changes in an order in which they don't fit, and removals of what isn't there.
+const EARLY: [Step; 12] = [
+    // values before their owners
+    Step::Add(Side::Vertex, "v1", "name", ANN),
+    Step::Add(Side::Edge, "e1", "since", Given::Int(7)),
+    // an edge before its ends
+    Step::Edge("e1", "v1", "v2", "knows"),
+    // no such name, no such id, no such key of it, no such value there
+    Step::Remove(Side::Vertex, "v1", "nick", ANN),
+    Step::Remove(Side::Vertex, "v9", "name", ANN),
+    Step::Remove(Side::Edge, "e9", "since", Given::Int(7)),
+    Step::Remove(Side::Vertex, "v1", "since", ANN),
+    Step::Remove(Side::Vertex, "v1", "name", BOB),
+    // the ends, the last values, and a value again
+    Step::Label("v2", "person"),
+    Step::Remove(Side::Edge, "e1", "since", Given::Int(7)),
+    Step::Remove(Side::Vertex, "v1", "name", ANN),
+    Step::Add(Side::Vertex, "v1", "name", BOB),
+];
+
+// Rows after those changes; then one name as id, label, key and value.
+const LATE: [Line; 9] = [
+    Line::Edge("e1", "v1", "v2", "knows", &[]),
+    Line::Edge("e2", "v1", "v2", "knows", &[]),
+    Line::Vertex("v1", &[], &[At::Single("name", ANN)]),
+    Line::Vertex("v1", &["person"], &[At::Single("name", BOB)]),
+    Line::Edge(
+        "e1",
+        "v1",
+        "v2",
+        "knows",
+        &[At::Single("since", Given::Int(8))],
+    ),
+    Line::Vertex(
+        "name",
+        &["name"],
+        &[At::Set("name", &[Given::Word("name")])],
+    ),
+    Line::Edge(
+        "name",
+        "name",
+        "name",
+        "name",
+        &[At::Single("name", Given::Word("name"))],
+    ),
+    Line::Edge("name", "name", "name", "person", &[]),
+    Line::Vertex("name", &["person", "name"], &[At::Single("name", ANN)]),
+];
+
+#[test]
+fn changes_come_before_what_they_speak_of(rt: HostRuntime) {
+    let alloc = rt.alloc();
+    for update_single in [false, true] {
+        let mut graph = Graph::empty(alloc, 0);
+        let mut facts = Facts::new(alloc);
+        for step in EARLY {
+            let change = change(alloc, step).expect(&rt, "memory");
+            graph.apply(&change).expect(&rt, "memory");
+            facts.apply(&change).expect(&rt, "memory");
+            assert!(rt; graph.sizes() == facts.sizes(), "{step:?}");
+            assert!(rt;
+                have_same_ids(alloc, &graph, &facts) == Ok(true),
+                "{step:?}"
+            );
+        }
+        for line in LATE {
+            let same = agree(alloc, &mut graph, &mut facts, update_single, line);
             assert!(rt; same == Ok(true), "{update_single} {line:?}");
         }
     }

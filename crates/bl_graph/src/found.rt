@@ -36,9 +36,12 @@ impl<'a> FoundLabels<'a> {
     pub fn contains(&self, label: &Text) -> bool
         ensures { result ≡ set.contains self.now label.now }
     {
-        match (self.numbers, self.names.number_of(label)) {
-            (Some(numbers), Some(number)) => numbers.contains(number),
-            _ => false,
+        let Some(numbers) = self.numbers else {
+            return false;
+        };
+        match self.names.number_of(label) {
+            Some(number) => numbers.contains(number),
+            None => false,
         }
     }
 }
@@ -69,15 +72,15 @@ impl<'a> FoundValues<'a> {
     pub fn at(&self, key: &Text) -> FoundKey<'a>
         ensures { result ≡ at_key self.now key.now }
     {
+        let Some(values) = self.values else {
+            return nothing();
+        };
         match self.names.number_of(key) {
             Some(number) => FoundKey {
-                values: self.values,
+                values: Some(values),
                 number,
             },
-            None => FoundKey {
-                values: None,
-                number: 0,
-            },
+            None => nothing(),
         }
     }
 }
@@ -101,6 +104,16 @@ impl<'a> Model for FoundKey<'a> {
     ghost coded = { values_code };
 
     ghost view = { λ a. at_number (unwrap_or (option_copied a.values) map.empty) a.number };
+}
+
+// A key without values.
+fn nothing<'a>() -> FoundKey<'a>
+    ensures { result ≡ set.empty }
+{
+    FoundKey {
+        values: None,
+        number: 0,
+    }
 }
 
 impl<'a> FoundKey<'a> {

@@ -129,7 +129,7 @@ pub fn row(alloc: Global, line: Line) -> Result<Row, NoMemory> {
     })
 }
 
-fn change(alloc: Global, step: Step) -> Result<Change, NoMemory> {
+pub fn change(alloc: Global, step: Step) -> Result<Change, NoMemory> {
     Ok(match step {
         Step::Label(id, label) => Change::AddLabel {
             id: text(alloc, id)?,

@@ -1,5 +1,5 @@
 use Rattle.std.proofs.Common.{◌≡◌, take}
-use Rattle.bl_graph.specs.Numbered.{at_number, nested}
+use Rattle.bl_graph.specs.Numbered.{nested}
 use Rattle.bl_graph.proofs.numbered_values.keyed_pairs.Given as goal
 
 -- the pairs so far are there

@@ -1,4 +1,4 @@
-use Rattle.std.proofs.Common.{sym, ap, ◌∙◌, ◌++◌, ◌∷◌, [], take, get_or}
+use Rattle.std.proofs.Common.{sym, ap, ◌∙◌, take, get_or}
 use Rattle.std.proofs.lemmas.List.{take_more}
 use Rattle.bl_outside.specs.OrderedSet as set
 use Rattle.bl_graph.specs.Held.{numbers_in}

@@ -1,6 +1,5 @@
-use Rattle.std.proofs.Common.{◌≡◌, ◌==◌, ◌+◌, ◌^◌, ◌<◌, length, not, is_some, cond}
+use Rattle.std.proofs.Common.{◌≡◌, ◌+◌, ◌^◌, ◌<◌, length, is_some, cond}
 use Rattle.std.specs.Map.{values_of}
-use Rattle.bl_outside.specs.OrderedSet as set
 use Rattle.bl_graph.specs.Sizes.{total}
 use Rattle.bl_graph.proofs.owner.count_edges.Given as goal
 

@@ -1,4 +1,4 @@
-use Rattle.std.proofs.Common.{◌≡◌, ◌==◌, ◌+◌, ◌^◌, ◌<◌, length, not, is_some, cond}
+use Rattle.std.proofs.Common.{◌≡◌, ◌==◌, ◌+◌, ◌^◌, ◌<◌, length, not, cond}
 use Rattle.std.specs.Map.{values_of}
 use Rattle.bl_outside.specs.OrderedSet as set
 use Rattle.bl_graph.specs.Sizes.{total}

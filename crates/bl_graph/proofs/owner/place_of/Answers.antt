@@ -1,4 +1,3 @@
-use Rattle.std.proofs.Common.{◌≡◌}
 use Rattle.bl_graph.specs.Owners.{bare}
 use Rattle.bl_graph.proofs.Places.{place_new, same_new}
 use Rattle.bl_graph.proofs.owner.place_of.Goals as goal

@@ -1,5 +1,5 @@
 use Rattle.std.proofs.Common.{refl}
-use Rattle.bl_graph.specs.Owners.{IsSet, with_ends}
+use Rattle.bl_graph.specs.Owners.{with_ends}
 use Rattle.bl_graph.proofs.Places.{set_at, set_missing}
 use Rattle.bl_graph.proofs.owner.set_ends.Goals as goal
 

@@ -2,7 +2,7 @@ use Rattle.std.proofs.Common.{sym, ap, ◌∙◌, not, ◌==◌, length, filter}
 use Rattle.std.specs.FinMap as map
 use Rattle.std.specs.Option.{option_copied, unwrap_or}
 use Rattle.bl_outside.specs.OrderedSet as set
-use Rattle.bl_outside.proofs.Finite.{contains-empty, no_items}
+use Rattle.bl_outside.proofs.Finite.{no_items}
 use Rattle.bl_value.specs.Order.{value_cmp}
 use Rattle.bl_graph.specs.Admission.{is_among}
 use Rattle.bl_graph.specs.Numbered.{at_number}

@@ -1,7 +1,7 @@
 use Rattle.std.proofs.Common.{ap, ◌∙◌}
 use Rattle.bl_value.specs.declared.change.Change.TheVariants.{AddEdge}
 use Rattle.bl_graph.specs.Replay.{after_one}
-use Rattle.bl_graph.specs.Owners.{no_vertex, no_edge}
+use Rattle.bl_graph.specs.Owners.{no_vertex}
 use Rattle.bl_graph.proofs.Kept.{graph_grown, sound_grown}
 use Rattle.bl_graph.proofs.Places.{same_all, same_front}
 use Rattle.bl_graph.proofs.Steps.{edge_added, edge_sound}

@@ -1,7 +1,6 @@
 use Rattle.std.proofs.Common.{ap, ◌∙◌}
 use Rattle.std.proofs.lemmas.Result.{on_ok_weaker, on_err_weaker}
 use Rattle.bl_value.specs.declared.change.Change.TheVariants.{AddLabel}
-use Rattle.bl_value.specs.declared.column.Side.TheVariants.{Vertex, Edge}
 use Rattle.bl_graph.specs.Replay.{after_one}
 use Rattle.bl_graph.specs.Owners.{no_vertex, no_edge}
 use Rattle.bl_graph.proofs.Kept.{graph_grown, sound_grown}

@@ -1,4 +1,4 @@
-use Rattle.std.proofs.Common.{sym, subst, [], None}
+use Rattle.std.proofs.Common.{sym, subst, []}
 use Rattle.bl_graph.specs.Owners.{IsSound}
 use Rattle.bl_graph.proofs.Whole.{sound_nothing}
 use Rattle.bl_graph.proofs.graph.Graph.nothing.Goals as goal

@@ -1,9 +1,7 @@
-use Rattle.std.proofs.Common.{◌≡◌, sym, ap, subst, ◌∙◌, None}
-use Rattle.std.specs.declared.option.Option.{Option}
+use Rattle.std.proofs.Common.{◌≡◌, sym, ap, subst, ◌∙◌}
 use Rattle.bl_outside.specs.OrderedSet as set
 use Rattle.bl_value.specs.declared.change.Change.TheVariants.{RemoveValue}
 use Rattle.bl_value.specs.declared.column.Side.TheVariants.{Vertex}
-use Rattle.bl_graph.specs.declared.owner.Ends.{Ends as EndNumbers}
 use Rattle.bl_graph.specs.Numbered.{ByNumber}
 use Rattle.bl_graph.specs.Replay.{after_one}
 use Rattle.bl_graph.proofs.Steps.{value_taken, value_taken_sound, no_key, no_owner}

@@ -1,11 +1,9 @@
-use Rattle.std.proofs.Common.{◌≡◌, sym, ap, subst, ◌∙◌, ◌==◌, ◌+◌, ◌-◌, ◌^◌, refl, not, is_some, length, min, None, ℕ, Bool, cond}
-use Rattle.std.specs.declared.option.Option.{Option}
+use Rattle.std.proofs.Common.{◌≡◌, sym, ap, subst, ◌∙◌, ◌==◌, ◌+◌, ◌-◌, ◌^◌, refl, not, is_some, length, min, ℕ, Bool, cond}
 use Rattle.std.specs.FinMap as map
 use Rattle.std.specs.Map.{keys_of, values_of}
 use Rattle.std.specs.Option.{option_map, unwrap_or}
 use Rattle.bl_outside.specs.OrderedSet as set
-use Rattle.bl_graph.specs.declared.owner.Ends.{Ends as EndNumbers}
-use Rattle.bl_graph.specs.Numbered.{ByNumber, values_count}
+use Rattle.bl_graph.specs.Numbered.{values_count}
 use Rattle.bl_graph.specs.Owners.{AreWithin, Edge, Vertex, ends_said, labels_said, no_edge, no_vertex, owner_at, values_said}
 use Rattle.bl_graph.specs.Sizes.{count_in, values_count as counted}
 use Rattle.bl_graph.proofs.Counted.{each_owner, ends_some, labels_some, len_kept, same_total, total_kept, values_total}

@@ -2,7 +2,7 @@ use Rattle.std.proofs.Common.{ap, ◌∙◌}
 use Rattle.bl_outside.specs.OrderedSet as set
 use Rattle.bl_graph.proofs.ByNumber.{without}
 use Rattle.bl_graph.specs.Numbered.{at_number, by_number, filled, written}
-use Rattle.bl_graph.proofs.Maps.{dropped, kept}
+use Rattle.bl_graph.proofs.Maps.{dropped}
 use Rattle.bl_graph.proofs.keyed_values.KeyedValues.remove.Goals as goal
 
 pub returns : goal.returns

@@ -1,11 +1,10 @@
-use Rattle.std.proofs.Common.{sym, ap, ◌∙◌, nat_eq, not, ◌&&◌, ◌==◌, length, filter}
+use Rattle.std.proofs.Common.{sym, ap, ◌∙◌}
 use Rattle.std.specs.List.{list_any}
 use Rattle.bl_outside.specs.OrderedSet as set
-use Rattle.bl_outside.proofs.Finite.{contains-empty, no_items}
+use Rattle.bl_outside.proofs.Finite.{contains-empty}
 use Rattle.bl_value.specs.Order.{value_cmp}
-use Rattle.bl_graph.specs.Admission.{is_among}
 use Rattle.bl_graph.specs.Held.{values_of}
-use Rattle.bl_graph.specs.Numbered.{at_number, values_count}
+use Rattle.bl_graph.specs.Numbered.{at_number}
 use Rattle.bl_graph.proofs.Nested.{has_nested, is_pair}
 use Rattle.bl_graph.proofs.numbered_values.NumberedValues.has.Goals as goal
 

@@ -1,5 +1,4 @@
-use Rattle.std.proofs.Common.{subst}
-use Rattle.bl_graph.specs.Owners.{AreSame, bare, no_vertex, no_edge}
+use Rattle.bl_graph.specs.Owners.{no_vertex, no_edge}
 use Rattle.bl_graph.proofs.Places.{same_all}
 use Rattle.bl_graph.proofs.tables.Tables.edge_named.Goals as goal
 
