@@ -133,11 +133,7 @@ fn load_records(
 
 /// The load of a file, whose ids are hashed by the seed. None where it isn't one that is loaded so
 /// far.
-pub fn load_bytes(
-    alloc: Global,
-    seed: u128,
-    file: FileBytes,
-) -> Result<Option<Loaded>, NoMemory>
+pub fn load_bytes(alloc: Global, seed: u128, file: FileBytes) -> Result<Option<Loaded>, NoMemory>
     requires { IsSmall file.bytes }
     ensures load { IfOk result (IsThe (IsContentLoad (contents file.bytes))) }
     ensures printable { IfOk result (λ loaded. IfSome loaded (λ load. All IsPrintable load.changes)) }

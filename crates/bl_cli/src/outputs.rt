@@ -1,5 +1,5 @@
 // What a load prints.
-ghost use Rattle.std.specs.Prelude.{◌≡◌, ◌++◌, IfOk, OnOk};
+ghost use Rattle.std.specs.Prelude.{◌≡◌, ◌++◌, [], if◌then◌else◌, IfOk, OnOk};
 ghost use Rattle.std.specs.List.{All, flat_map};
 ghost use Rattle.bl_cli.specs.Outputs.{change_lines, event_line, failed_line, job_line, load_output, number_behind};
 ghost use Rattle.bl_value.specs.Valid.{IsPrintable};
@@ -97,6 +97,24 @@ fn push_changes(
     Ok(())
 }
 
+// A line for each change, where that is asked for.
+fn lines_of(
+    alloc: Global,
+    moment: u64,
+    with_changes: bool,
+    changes: List<Change>,
+) -> Result<Text, NoMemory>
+    requires { All IsPrintable changes }
+    ensures { IfOk result (λ text. text ≡ (if with_changes then change_lines moment changes else [])) }
+{
+    let mut text = Text::new(alloc);
+    if !with_changes {
+        return Ok(text);
+    }
+    push_changes(alloc, &mut text, moment, changes)?;
+    Ok(text)
+}
+
 /// All that a completed load prints: a line for each change where that is asked for, and the line
 /// of the job.
 pub fn load_output(
@@ -116,14 +134,9 @@ pub fn load_output(
         duplicates,
     } = loaded;
     drop(graph);
-    let mut text = Text::new(alloc);
-    if with_changes {
-        push_changes(alloc, &mut text, moment, changes)?;
-    }
-    push_text(
-        &mut text,
-        &job_line(alloc, salt, "LOAD_COMPLETED", records, duplicates)?,
-    )?;
+    let mut text = lines_of(alloc, moment, with_changes, changes)?;
+    let line = job_line(alloc, salt, "LOAD_COMPLETED", records, duplicates)?;
+    push_text(&mut text, &line)?;
     Ok(text)
 }
 

@@ -1,8 +1,8 @@
 // Runs of the program over a folder, disks and streams in memory.
 use crate::{Status, run};
 use bl_outside::{
-    Clock, Disks, Faults, FixedClock, List, MemoryDisk, MemoryFolder, MemorySink, MemorySource, NoMemory,
-    Text,
+    Clock, Disks, Faults, FixedClock, List, MemoryDisk, MemoryFolder, MemorySink, MemorySource,
+    NoMemory, Text,
 };
 use std::alloc::{AllocError, Global};
 use std::thread::Threads;
@@ -44,7 +44,15 @@ fn run_over<R: Threads + Sync>(
     bytes: &[u8],
     fails: (u64, u64, u64),
 ) -> Result<Outcome, NoMemory> {
-    run_at(runtime, alloc, words, bytes, fails, &mut FixedClock::new(0), 0)
+    run_at(
+        runtime,
+        alloc,
+        words,
+        bytes,
+        fails,
+        &mut FixedClock::new(0),
+        0,
+    )
 }
 
 // The same with another clock and salt. There is a compressed file beside the one.

@@ -22,3 +22,8 @@ returns-clause-load c =
     (c.header.ensures.first all 0 (rows_of all) c.in_ok-reader.ensures)
     (subst (IsThe (IsSetHeader c.header.result.now)) c.in-Some.is c.in_ok-columns.ensures.columns)
     (c.load_records.ensures.load all 0 (rows_of all) c.in_ok-reader.ensures)
+
+pub set_columns-requires : goal.set_columns-requires
+set_columns-requires c =
+    let all = contents c.args.file.bytes in
+    (c.header.ensures.short all 0 (rows_of all) c.in_ok-reader.ensures).few
