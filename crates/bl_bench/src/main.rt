@@ -10,15 +10,11 @@
 //! | `records` | SIZE rows of ten cells are read by `csv` alone | the rows, and the bytes of their fields |
 //! | `convert` | the same rows are read, digested and converted | the same |
 //! | `entries` | a batch of 1,000 rows and 3,000 changes is decoded and encoded SIZE times | the times, and the bytes written |
-//! | `files` | the two files of a drill of SIZE rows are made | the rows, and the bytes of the files |
-//! | `drill` | the same, read, digested, converted, admitted in batches, encoded and appended to a journal over a disk in memory | what the rows did, the batches, the bytes of the journal, the sizes of the graph |
 //! | `admit` | SIZE rows, half of them vertices and half edges, are admitted into a graph and their changes applied | what the rows did, and the sizes of the graph |
 #![tactic(auto)]
 
 mod admitting;
 mod counts;
-mod drill;
-mod drill_files;
 mod entries;
 mod graph_rows;
 mod journal;
@@ -26,7 +22,6 @@ mod rows;
 
 use admitting::Admitting;
 use counts::Counts;
-use drill::Drilled;
 use std::alloc::{AllocError, Global};
 use std::process::ExitCode;
 use std::{env, io};
@@ -36,7 +31,6 @@ use std::{env, io};
 enum Work {
     Bytes(Counts),
     Rows(Admitting),
-    Drill(Drilled),
 }
 
 // A layer that goes through bytes.
@@ -47,7 +41,6 @@ fn through_bytes(alloc: Global, layer: &str, size: u64) -> Option<Counts> {
         "records" => rows::records(alloc, size),
         "convert" => rows::converted(alloc, size),
         "entries" => entries::entries(alloc, size),
-        "files" => drill::files(alloc, size),
         _ => None,
     }
 }
@@ -56,7 +49,6 @@ fn through_bytes(alloc: Global, layer: &str, size: u64) -> Option<Counts> {
 fn run(alloc: Global, layer: &str, size: u64) -> Option<Work> {
     match layer {
         "admit" => Some(Work::Rows(admitting::admitted(alloc, size)?)),
-        "drill" => Some(Work::Drill(drill::drill(alloc, size)?)),
         _ => Some(Work::Bytes(through_bytes(alloc, layer, size)?)),
     }
 }
@@ -70,13 +62,6 @@ fn line(alloc: Global, work: &Work) -> Result<String, AllocError> {
             format!(in alloc;
                 "rows {} changes {} duplicates {} refused {} vertices {vertices} edges {edges} values {values}",
                 done.rows, done.changes, done.duplicates, done.refused
-            )
-        }
-        Work::Drill(done) => {
-            let (vertices, edges, values) = done.sizes;
-            format!(in alloc;
-                "rows {} changes {} duplicates {} refused {} batches {} bytes {} vertices {vertices} edges {edges} values {values}",
-                done.rows, done.changes, done.duplicates, done.refused, done.batches, done.bytes
             )
         }
     }

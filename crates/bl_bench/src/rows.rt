@@ -63,8 +63,8 @@ pub fn records(alloc: Global, records: u64) -> Option<Counts> {
     None
 }
 
-/// The columns of the header that was read.
-pub fn columns_of(alloc: Global, reader: &RowReader) -> Option<Columns>
+// The columns of the header that was read.
+fn columns_of(alloc: Global, reader: &RowReader) -> Option<Columns>
     requires { (all : Items Fields) × (taken : ℕ) × (left : Items Fields) × Stands reader.now all taken left }
     ensures { IfSome result IsColumns }
 {

@@ -2,8 +2,8 @@
 use crate::plain_admission::Facts;
 use crate::test_rows::{ANN, At, BOB, Given, Line, Step, change, is_same_verdict, row, text};
 use crate::{Graph, Verdict};
-use bl_outside::NoMemory;
-use bl_value::{LogCode, Side};
+use bl_outside::{List, NoMemory, Text};
+use bl_value::{LogCode, Property, Row, Side, Value};
 use std::alloc::Global;
 
 const IDS: [&str; 10] = ["v1", "v2", "v3", "v9", "e1", "e2", "e3", "e4", "name", ""];
@@ -41,9 +41,18 @@ fn agree(
     update_single: bool,
     line: Line,
 ) -> Result<bool, NoMemory> {
-    let row = row(alloc, line)?;
-    let verdict = graph.admit(update_single, &row)?;
-    let plain = facts.admit(update_single, &row)?;
+    agree_on(alloc, graph, facts, update_single, &row(alloc, line)?)
+}
+
+fn agree_on(
+    alloc: Global,
+    graph: &mut Graph,
+    facts: &mut Facts,
+    update_single: bool,
+    row: &Row,
+) -> Result<bool, NoMemory> {
+    let verdict = graph.admit(update_single, row)?;
+    let plain = facts.admit(update_single, row)?;
     let same = is_same_verdict(&verdict, &plain) && take(graph, facts, &verdict)?;
     Ok(same && graph.sizes() == facts.sizes() && have_same_ids(alloc, graph, facts)?)
 }
@@ -274,90 +283,124 @@ fn edges_are_admitted_as_by_the_plain_rules(rt: HostRuntime) {
     }
 }
 
-const LETTERS: [&str; 16] = [
-    "a", "b", "c", "d", "e", "f", "g", "h", "i", "j", "k", "l", "m", "n", "o", "p",
-];
+// A letter and a number.
+fn numbered(alloc: Global, letter: &str, number: i32) -> Result<Text, NoMemory> {
+    text(alloc, format!(in alloc; "{letter}{number}")?.as_str())
+}
 
-// Fifteen values, none of which is 15 or more.
-const NUMBERS: [Given; 15] = [
-    Given::Int(14),
-    Given::Int(3),
-    Given::Int(0),
-    Given::Int(7),
-    Given::Int(1),
-    Given::Int(13),
-    Given::Int(2),
-    Given::Int(12),
-    Given::Int(4),
-    Given::Int(11),
-    Given::Int(5),
-    Given::Int(10),
-    Given::Int(6),
-    Given::Int(9),
-    Given::Int(8),
-];
+fn property(
+    key: Text,
+    single: bool,
+    values: List<Value>,
+    properties: &mut List<Property>,
+) -> Result<(), NoMemory> {
+    properties.push(Property {
+        key,
+        column: 3,
+        single,
+        values,
+    })
+}
 
-// One key each, with a value of its own.
-const KEYS: [At; 15] = [
-    At::Single("a", Given::Int(1)),
-    At::Single("b", Given::Int(2)),
-    At::Single("c", Given::Int(3)),
-    At::Single("d", Given::Int(4)),
-    At::Single("e", Given::Int(5)),
-    At::Single("f", Given::Int(6)),
-    At::Single("g", Given::Int(7)),
-    At::Single("h", Given::Int(8)),
-    At::Single("i", Given::Int(9)),
-    At::Single("j", Given::Int(10)),
-    At::Single("k", Given::Int(11)),
-    At::Single("l", Given::Int(12)),
-    At::Single("m", Given::Int(13)),
-    At::Single("n", Given::Int(14)),
-    At::Single("o", Given::Int(15)),
-];
+// One value more at each key so far, and a key more.
+fn crowd(alloc: Global, count: i32) -> Result<List<Property>, NoMemory> {
+    let mut properties = List::new(alloc);
+    let mut values = List::new(alloc);
+    for number in 0..count {
+        values.push(Value::Int(number % 20 * 7 % 20))?;
+        let mut one = List::new(alloc);
+        one.push(Value::Int(number))?;
+        property(numbered(alloc, "k", number)?, true, one, &mut properties)?;
+    }
+    property(text(alloc, "x")?, false, values, &mut properties)?;
+    Ok(properties)
+}
 
-// Few of one vertex or edge, and many: where the sixteenth comes, and the seventeenth.
-const CROWDS: [Line; 24] = [
-    // labels
-    Line::Vertex("v1", &LETTERS, &[]),
-    Line::Vertex("v1", &LETTERS, &[]),
-    Line::Vertex("v1", &["p", "q"], &[]),
-    Line::Vertex("v1", &["q", "a", "r"], &[]),
-    Line::Vertex("v1", &LETTERS, &[]),
-    // values of one key
-    Line::Vertex("v2", &[], &[At::Set("x", &NUMBERS)]),
-    Line::Vertex("v2", &[], &[At::Set("x", &[Given::Int(15)])]),
-    Line::Vertex("v2", &[], &[At::Set("x", &NUMBERS)]),
-    Line::Vertex("v2", &[], &[At::Set("x", &[Given::Int(16), Given::Int(3)])]),
-    Line::Vertex("v2", &[], &[At::Set("x", &[Given::Int(17)])]),
-    Line::Vertex("v2", &[], &[At::Set("x", &NUMBERS)]),
-    // all of them but one are replaced, and all of them
-    Line::Vertex("v2", &[], &[At::Single("x", Given::Int(4))]),
-    Line::Vertex("v2", &[], &[At::Set("x", &NUMBERS)]),
-    Line::Vertex("v2", &[], &[At::Single("x", Given::Word("4"))]),
-    Line::Vertex("v2", &[], &[At::Single("x", Given::Int(4))]),
-    // keys, of a vertex and of an edge
-    Line::Vertex("v3", &[], &KEYS),
-    Line::Vertex("v3", &[], &[At::Single("p", Given::Int(16))]),
-    Line::Vertex("v3", &[], &[At::Single("q", Given::Int(17))]),
-    Line::Vertex("v3", &[], &KEYS),
-    Line::Vertex("v3", &[], &[At::Single("a", Given::Int(0))]),
-    Line::Edge("e1", "v1", "v2", "to", &KEYS),
-    Line::Edge("e1", "v1", "v2", "to", &[At::Single("p", ANN)]),
-    Line::Edge("e1", "v1", "v2", "to", &[At::Single("q", ANN)]),
-    Line::Edge("e1", "v1", "v2", "to", &[At::Single("p", BOB)]),
+// The row of a vertex with so many labels, keys, and values of one key.
+fn crowded_vertex(alloc: Global, count: i32) -> Result<Row, NoMemory> {
+    let mut labels = List::new(alloc);
+    for number in 0..count {
+        labels.push(numbered(alloc, "l", number)?)?;
+    }
+    Ok(Row::Vertex {
+        id: text(alloc, "v1")?,
+        labels,
+        properties: crowd(alloc, count)?,
+    })
+}
+
+// The row of an edge with so many keys.
+fn crowded_edge(alloc: Global, count: i32) -> Result<Row, NoMemory> {
+    let mut properties = List::new(alloc);
+    for number in 0..count {
+        let mut one = List::new(alloc);
+        one.push(Value::Int(number))?;
+        property(numbered(alloc, "k", number)?, true, one, &mut properties)?;
+    }
+    Ok(Row::Edge {
+        id: text(alloc, "e1")?,
+        label: text(alloc, "to")?,
+        from: text(alloc, "v1")?,
+        to: text(alloc, "v1")?,
+        properties,
+    })
+}
+
+// Whether crowds that grow by one, through the sixteenth and the seventeenth, are taken alike, and
+// the rows again.
+fn agree_on_crowds(alloc: Global, update_single: bool) -> Result<bool, NoMemory> {
+    let mut graph = Graph::empty(alloc, 0);
+    let mut facts = Facts::new(alloc);
+    for count in 0..20 {
+        let rows = [crowded_vertex(alloc, count)?, crowded_edge(alloc, count)?];
+        for row in &rows {
+            let first = agree_on(alloc, &mut graph, &mut facts, update_single, row)?;
+            let again = agree_on(alloc, &mut graph, &mut facts, update_single, row)?;
+            if !first || !again {
+                return Ok(false);
+            }
+        }
+    }
+    Ok(true)
+}
+
+// Single values for the many: of a key of the vertex, one of theirs and then another, and of a key
+// of the edge.
+const INSTEAD: [Line; 4] = [
+    Line::Vertex("v1", &[], &[At::Single("x", Given::Int(4))]),
+    Line::Vertex("v1", &[], &[At::Single("x", Given::Word("4"))]),
+    Line::Vertex("v1", &["l3", "l99"], &[At::Single("k17", ANN)]),
+    Line::Edge("e1", "v1", "v1", "to", &[At::Single("k17", ANN)]),
 ];
 
 #[test]
 fn crowds_are_admitted_as_by_the_plain_rules(rt: HostRuntime) {
-    for update_single in [false, true] {
-        let mut graph = Graph::empty(rt.alloc(), 0);
-        let mut facts = Facts::new(rt.alloc());
-        for line in CROWDS {
-            let same = agree(rt.alloc(), &mut graph, &mut facts, update_single, line);
-            assert!(rt; same == Ok(true), "{update_single} {line:?}");
+    assert!(rt; agree_on_crowds(rt.alloc(), false) == Ok(true));
+    assert!(rt; agree_on_crowds(rt.alloc(), true) == Ok(true));
+}
+
+// Whether single values are taken alike in the place of many.
+fn agree_on_fewer(alloc: Global, update_single: bool) -> Result<bool, NoMemory> {
+    let mut graph = Graph::empty(alloc, 0);
+    let mut facts = Facts::new(alloc);
+    let rows = [crowded_vertex(alloc, 19)?, crowded_edge(alloc, 19)?];
+    for row in &rows {
+        if !agree_on(alloc, &mut graph, &mut facts, update_single, row)? {
+            return Ok(false);
         }
     }
+    for line in INSTEAD {
+        if !agree(alloc, &mut graph, &mut facts, update_single, line)? {
+            return Ok(false);
+        }
+    }
+    Ok(true)
+}
+
+#[test]
+fn single_values_take_the_place_of_many_as_by_the_plain_rules(rt: HostRuntime) {
+    assert!(rt; agree_on_fewer(rt.alloc(), false) == Ok(true));
+    assert!(rt; agree_on_fewer(rt.alloc(), true) == Ok(true));
 }
 
 // Changes in an order in which they don't fit, and removals of what isn't there.
@@ -409,25 +452,27 @@ const LATE: [Line; 9] = [
     Line::Vertex("name", &["person", "name"], &[At::Single("name", ANN)]),
 ];
 
-#[test]
-fn changes_come_before_what_they_speak_of(rt: HostRuntime) {
-    let alloc = rt.alloc();
-    for update_single in [false, true] {
-        let mut graph = Graph::empty(alloc, 0);
-        let mut facts = Facts::new(alloc);
-        for step in EARLY {
-            let change = change(alloc, step).expect(&rt, "memory");
-            graph.apply(&change).expect(&rt, "memory");
-            facts.apply(&change).expect(&rt, "memory");
-            assert!(rt; graph.sizes() == facts.sizes(), "{step:?}");
-            assert!(rt;
-                have_same_ids(alloc, &graph, &facts) == Ok(true),
-                "{step:?}"
-            );
-        }
-        for line in LATE {
-            let same = agree(alloc, &mut graph, &mut facts, update_single, line);
-            assert!(rt; same == Ok(true), "{update_single} {line:?}");
+fn agree_early(alloc: Global, update_single: bool) -> Result<bool, NoMemory> {
+    let mut graph = Graph::empty(alloc, 0);
+    let mut facts = Facts::new(alloc);
+    for step in EARLY {
+        let change = change(alloc, step)?;
+        graph.apply(&change)?;
+        facts.apply(&change)?;
+        if graph.sizes() != facts.sizes() || !have_same_ids(alloc, &graph, &facts)? {
+            return Ok(false);
         }
     }
+    for line in LATE {
+        if !agree(alloc, &mut graph, &mut facts, update_single, line)? {
+            return Ok(false);
+        }
+    }
+    Ok(true)
+}
+
+#[test]
+fn changes_come_before_what_they_speak_of(rt: HostRuntime) {
+    assert!(rt; agree_early(rt.alloc(), false) == Ok(true));
+    assert!(rt; agree_early(rt.alloc(), true) == Ok(true));
 }
