@@ -8,9 +8,15 @@ use Rattle.bl_graph.specs.declared.verdict.Verdict.TheVariants.{Changes, Duplica
 use Rattle.bl_bench.specs.declared.admitting.Admitting.{Admitting}
 
 abbrev pub with_verdict : Admitting → Verdict → Admitting
-with_verdict old (Changes changes) = record old { graph = after old.graph changes; rows = old.rows + 1; changes = old.changes + length changes }
+with_verdict old (Changes changes) =
+    record old {
+      graph = after old.graph changes;
+      rows = old.rows + 1;
+      changes = old.changes + length changes;
+    }
 with_verdict old Duplicate = record old { rows = old.rows + 1; duplicates = old.duplicates + 1 }
-with_verdict old (Refused code column) = record old { rows = old.rows + 1; refused = old.refused + 1 }
+with_verdict old (Refused code column) =
+    record old { rows = old.rows + 1; refused = old.refused + 1 }
 
 -- one row more, admitted into the graph so far; single values are not updated
 abbrev pub with_row : Admitting → Row → Admitting

@@ -1,5 +1,18 @@
 // The journal over a disk in memory.
-ghost use Rattle.std.specs.Prelude.{◌≡◌, ◌+◌, ◌*◌, ◌++◌, [], None, List, ℕ, length, OnOk, IfOk, IfSome};
+ghost use Rattle.std.specs.Prelude.{
+  ◌≡◌,
+  ◌+◌,
+  ◌*◌,
+  ◌++◌,
+  [],
+  None,
+  List,
+  ℕ,
+  length,
+  OnOk,
+  IfOk,
+  IfSome,
+};
 ghost use Rattle.bl_journal.specs.Journals.{Ends, IsAtGate, Stands};
 ghost use Rattle.bl_bench.specs.Counting.{Counted, alike};
 
@@ -25,7 +38,8 @@ fn append_frames(journal: &mut Journal<MemoryDisk>, frames: u64) -> Result<(), A
 // The same where the journal is new.
 fn fill(journal: &mut Journal<MemoryDisk>, frames: u64) -> Option<()>
     requires gate { IsAtGate ⟦<MemoryDisk as Disk>⟧ journal.old }
-    requires new { Stands (⟦<MemoryDisk as Disk>⟧.seen journal.old.disk) journal.old.place [] ([], None) }
+    requires new { Stands (⟦<MemoryDisk as Disk>⟧.seen journal.old.disk) journal.old.place []
+        ([], None) }
     ensures ends { IfSome result (λ _. Ends ⟦<MemoryDisk as Disk>⟧ journal.new (alike frames)) }
     ensures place { IfSome result (λ _. journal.new.place ≡ journal.old.place + 105 * frames) }
 {
@@ -53,7 +67,8 @@ fn filled(alloc: Global, frames: u64) -> Option<Journal<MemoryDisk>>
 // Reads a journal to its end. None where it can't be read, or a count is at its end.
 fn read_frames(journal: &mut Journal<MemoryDisk>) -> Option<Counts>
     requires { IsAtGate ⟦<MemoryDisk as Disk>⟧ journal.old }
-    ensures { (bodies : List (List ℕ)) → Stands (⟦<MemoryDisk as Disk>⟧.seen journal.old.disk) journal.old.place [] (bodies, None)
+    ensures { (bodies : List (List ℕ)) →
+        Stands (⟦<MemoryDisk as Disk>⟧.seen journal.old.disk) journal.old.place [] (bodies, None)
         → IfSome result (Counted bodies) }
 {
     let mut bytes: u64 = 0;

@@ -65,7 +65,8 @@ pub fn records(alloc: Global, records: u64) -> Option<Counts> {
 
 // The columns of the header that was read.
 fn columns_of(alloc: Global, reader: &RowReader) -> Option<Columns>
-    requires { (all : Items Fields) × (taken : ℕ) × (left : Items Fields) × Stands reader.now all taken left }
+    requires { (all : Items Fields) × (taken : ℕ) × (left : Items Fields)
+        × Stands reader.now all taken left }
     ensures { IfSome result IsColumns }
 {
     let Ok(columns) = read_header(alloc, reader.header()) else {
@@ -91,7 +92,8 @@ fn convert_one(alloc: Global, columns: &Columns, fields: &List<Text>) -> Option<
 // Takes, digests and converts all records that are left.
 fn convert_left(alloc: Global, columns: &Columns, reader: &mut RowReader) -> Option<Counts>
     requires { IsColumns columns.now }
-    ensures { (all : Items Fields) (taken : ℕ) (left : Items Fields) → Stands reader.old all taken left → IfSome result (CountsRows left) }
+    ensures { (all : Items Fields) (taken : ℕ) (left : Items Fields) →
+        Stands reader.old all taken left → IfSome result (CountsRows left) }
 {
     let mut bytes: u64 = 0;
     for items in 0..u64::MAX {

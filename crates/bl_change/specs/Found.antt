@@ -40,7 +40,8 @@ type_of (Date seconds) = type.Date
 
 -- a value of this type, in its range, that an object has as its `value`
 abbrev pub IsValueIn : ValueType → Data → Value → Type 0
-IsValueIn kind json value = (kind ≡ type_of value) × IsValue value × (get (codes "value") json ≡ Some (value_data value))
+IsValueIn kind json value = (kind ≡ type_of value) × IsValue value
+    × (get (codes "value") json ≡ Some (value_data value))
 
 -- what a change does
 abbrev pub operation_of : Change → Operation
@@ -58,7 +59,8 @@ record_type (RemoveValue side id key value) = property_type side
 
 -- a change in its ranges that does this, and has this record
 abbrev pub IsChangeIn : Operation → Data → Change → Type 0
-IsChangeIn does json change = (does ≡ operation_of change) × IsChange change × (json ≡ change_data change)
+IsChangeIn does json change = (does ≡ operation_of change) × IsChange change
+    × (json ≡ change_data change)
 
 -- why a text is not read as JSON
 abbrev pub IsNoJson : List ℕ → EventRefusal → Type 0

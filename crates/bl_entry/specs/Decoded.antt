@@ -14,4 +14,5 @@ Decodes bytes (Err NoMemory) = Unit {0}
 
 -- no encoding is the front of another, and each is of one entry
 abbrev pub NoneBegins : Type 0
-NoneBegins = (a b : Entry) (rest : List ℕ) → IsEntry a → IsEntry b → entry_bytes a ++ rest ≡ entry_bytes b → (a ≡ b) × (rest ≡ [])
+NoneBegins = (a b : Entry) (rest : List ℕ) → IsEntry a → IsEntry b →
+    entry_bytes a ++ rest ≡ entry_bytes b → (a ≡ b) × (rest ≡ [])

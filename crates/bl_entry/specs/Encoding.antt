@@ -103,9 +103,12 @@ value_bytes (Date n) = u8_bytes 7 ++ to_be_bytes w64 (cast_unsigned w64 n)
 
 abbrev pub change_bytes : Change → List ℕ
 change_bytes (AddLabel id label) = u8_bytes 1 ++ (text_bytes id ++ text_bytes label)
-change_bytes (AddEdge id label from to) = u8_bytes 2 ++ (text_bytes id ++ (text_bytes label ++ (text_bytes from ++ text_bytes to)))
-change_bytes (AddValue s id key value) = u8_bytes 3 ++ (side_bytes s ++ (text_bytes id ++ (text_bytes key ++ value_bytes value)))
-change_bytes (RemoveValue s id key value) = u8_bytes 4 ++ (side_bytes s ++ (text_bytes id ++ (text_bytes key ++ value_bytes value)))
+change_bytes (AddEdge id label from to) =
+    u8_bytes 2 ++ (text_bytes id ++ (text_bytes label ++ (text_bytes from ++ text_bytes to)))
+change_bytes (AddValue s id key value) =
+    u8_bytes 3 ++ (side_bytes s ++ (text_bytes id ++ (text_bytes key ++ value_bytes value)))
+change_bytes (RemoveValue s id key value) =
+    u8_bytes 4 ++ (side_bytes s ++ (text_bytes id ++ (text_bytes key ++ value_bytes value)))
 
 -- ---- files, plans, ends
 
@@ -139,16 +142,25 @@ mode_bytes Auto = u8_bytes 2
 
 abbrev pub request_bytes : LoadRequest → List ℕ
 request_bytes request =
-    text_bytes request.source ++ (u8_bytes request.format ++ (mode_bytes request.mode ++ (truth_bytes request.fail_on_error ++ (truth_bytes request.update_single
-    ++ (u8_bytes request.parallelism ++ (truth_bytes request.queue ++ list_bytes u128_bytes request.dependencies))))))
+    text_bytes request.source ++ (u8_bytes request.format
+    ++ (mode_bytes request.mode ++
+    (truth_bytes request.fail_on_error ++ (truth_bytes request.update_single
+    ++ (u8_bytes request.parallelism
+    ++ (truth_bytes request.queue ++ list_bytes u128_bytes request.dependencies))))))
 
 -- ---- entries
 
 abbrev pub entry_bytes : Entry → List ℕ
-entry_bytes (Submit moment job id request) = u8_bytes 1 ++ (u64_bytes moment ++ (u32_bytes job ++ (u128_bytes id ++ request_bytes request)))
+entry_bytes (Submit moment job id request) =
+    u8_bytes 1 ++ (u64_bytes moment ++ (u32_bytes job ++ (u128_bytes id ++ request_bytes request)))
 entry_bytes (Cancel moment job) = u8_bytes 2 ++ (u64_bytes moment ++ u32_bytes job)
-entry_bytes (Start moment job planned) = u8_bytes 3 ++ (u64_bytes moment ++ (u32_bytes job ++ plan_bytes planned))
+entry_bytes (Start moment job planned) =
+    u8_bytes 3 ++ (u64_bytes moment ++ (u32_bytes job ++ plan_bytes planned))
 entry_bytes (Batch moment job feed from rows digest duplicates logs changes) =
-    u8_bytes 4 ++ (u64_bytes moment ++ (u32_bytes job ++ (u32_bytes feed ++ (u64_bytes from ++ (u32_bytes rows ++ (digest_bytes digest
-    ++ (u32_bytes duplicates ++ (list_bytes log_bytes logs ++ list_bytes change_bytes changes))))))))
-entry_bytes (End moment job feed how) = u8_bytes 5 ++ (u64_bytes moment ++ (u32_bytes job ++ (u32_bytes feed ++ end_bytes how)))
+    u8_bytes 4 ++ (u64_bytes moment
+    ++ (u32_bytes job ++ (u32_bytes feed
+    ++ (u64_bytes from ++ (u32_bytes rows ++ (digest_bytes digest
+    ++ (u32_bytes duplicates ++ (list_bytes log_bytes logs
+    ++ list_bytes change_bytes changes))))))))
+entry_bytes (End moment job feed how) =
+    u8_bytes 5 ++ (u64_bytes moment ++ (u32_bytes job ++ (u32_bytes feed ++ end_bytes how)))

@@ -102,8 +102,12 @@ short_at most bytes = tested_at (is_within most) text_at bytes
 
 abbrev pub all_codes : List LogCode
 all_codes =
-    ColumnCount ∷ (NotUtf8 ∷ (RecordTooLarge ∷ (MissingId ∷ (IdTooLong ∷ (NotOfType ∷ (OutOfRange ∷ (TooManyValues ∷ (FromMissing ∷ (ToMissing ∷ (EdgeConflict ∷ (SingleConflict
-    ∷ (Header ∷ (Compressed ∷ (ReadFault ∷ (FileTooLarge ∷ (FeedModified ∷ (SourceNotFound ∷ (ListFault ∷ (TooManyFiles ∷ (NoPreviousLoad ∷ []))))))))))))))))))))
+    ColumnCount ∷ (NotUtf8 ∷ (RecordTooLarge
+    ∷ (MissingId ∷ (IdTooLong ∷ (NotOfType
+    ∷ (OutOfRange ∷ (TooManyValues ∷ (FromMissing ∷ (ToMissing ∷ (EdgeConflict ∷ (SingleConflict
+    ∷ (Header ∷ (Compressed ∷ (ReadFault
+    ∷ (FileTooLarge ∷ (FeedModified
+    ∷ (SourceNotFound ∷ (ListFault ∷ (TooManyFiles ∷ (NoPreviousLoad ∷ []))))))))))))))))))))
 
 unfoldable pub code_of : ℕ → Option LogCode
 code_of number = find (λ code. code_number code == number) all_codes
@@ -113,7 +117,8 @@ code_at [] = None
 code_at (number ∷ rest) = code_of number >>= λ code. Some (code, rest)
 
 unfoldable pub log_at : Part Log
-log_at bytes = made_at (λ x. record { code = x.0; number = x.1.0; column = x.1.1 }) (both_at code_at (both_at (number_at w64) (number_at w32))) bytes
+log_at bytes = made_at (λ x. record { code = x.0; number = x.1.0; column = x.1.1 })
+    (both_at code_at (both_at (number_at w64) (number_at w32))) bytes
 
 -- ---- changes
 
@@ -137,20 +142,28 @@ value_at (suc (suc (suc zero)) ∷ rest) = made_at Short (signed_at w16) rest
 value_at (suc (suc (suc (suc zero))) ∷ rest) = made_at Int (signed_at w32) rest
 value_at (suc (suc (suc (suc (suc zero)))) ∷ rest) = made_at Long (signed_at w64) rest
 value_at (suc (suc (suc (suc (suc (suc zero))))) ∷ rest) = made_at Str text_at rest
-value_at (suc (suc (suc (suc (suc (suc (suc zero)))))) ∷ rest) = made_at Date (tested_at is_date (signed_at w64)) rest
+value_at (suc (suc (suc (suc (suc (suc (suc zero)))))) ∷ rest) =
+    made_at Date (tested_at is_date (signed_at w64)) rest
 value_at (suc (suc (suc (suc (suc (suc (suc (suc b))))))) ∷ rest) = None
 
 -- the side, the id, the key and the value
 unfoldable pub property_at : Part (Side × (List ℕ × (List ℕ × Value)))
-property_at bytes = both_at side_at (both_at (short_at 1024) (both_at (short_at 256) value_at)) bytes
+property_at bytes = both_at side_at (both_at (short_at 1024) (both_at (short_at 256) value_at))
+    bytes
 
 unfoldable pub change_at : Part Change
 change_at [] = None
 change_at (zero ∷ rest) = None
-change_at (suc zero ∷ rest) = made_at (λ x. AddLabel x.0 x.1) (both_at (short_at 1024) (short_at 1024)) rest
-change_at (suc (suc zero) ∷ rest) = made_at (λ x. AddEdge x.0 x.1.0 x.1.1.0 x.1.1.1) (both_at (short_at 1024) (both_at (short_at 1024) (both_at (short_at 1024) (short_at 1024)))) rest
-change_at (suc (suc (suc zero)) ∷ rest) = made_at (λ x. AddValue x.0 x.1.0 x.1.1.0 x.1.1.1) property_at rest
-change_at (suc (suc (suc (suc zero))) ∷ rest) = made_at (λ x. RemoveValue x.0 x.1.0 x.1.1.0 x.1.1.1) property_at rest
+change_at (suc zero ∷ rest) = made_at (λ x. AddLabel x.0 x.1)
+    (both_at (short_at 1024) (short_at 1024)) rest
+change_at (suc (suc zero) ∷ rest) =
+    made_at (λ x. AddEdge x.0 x.1.0 x.1.1.0 x.1.1.1)
+    (both_at (short_at 1024) (both_at (short_at 1024) (both_at (short_at 1024) (short_at 1024))))
+    rest
+change_at (suc (suc (suc zero)) ∷ rest) =
+    made_at (λ x. AddValue x.0 x.1.0 x.1.1.0 x.1.1.1) property_at rest
+change_at (suc (suc (suc (suc zero))) ∷ rest) =
+    made_at (λ x. RemoveValue x.0 x.1.0 x.1.1.0 x.1.1.1) property_at rest
 change_at (suc (suc (suc (suc (suc b)))) ∷ rest) = None
 
 -- ---- files, plans, ends
@@ -159,11 +172,13 @@ unfoldable pub kind_at : Part FeedKind
 kind_at [] = None
 kind_at (zero ∷ rest) = Some (kind.Vertex, rest)
 kind_at (suc zero ∷ rest) = Some (kind.Edge, rest)
-kind_at (suc (suc zero) ∷ rest) = made_at (λ x. kind.Refused x.0 x.1) (both_at code_at (number_at w32)) rest
+kind_at (suc (suc zero) ∷ rest) =
+    made_at (λ x. kind.Refused x.0 x.1) (both_at code_at (number_at w32)) rest
 kind_at (suc (suc (suc b)) ∷ rest) = None
 
 unfoldable pub found_at : Part Found
-found_at bytes = made_at (λ x. record { name = x.0; kind = x.1.0; digest = x.1.1 }) (both_at text_at (both_at kind_at digest_at)) bytes
+found_at bytes = made_at (λ x. record { name = x.0; kind = x.1.0; digest = x.1.1 })
+    (both_at text_at (both_at kind_at digest_at)) bytes
 
 unfoldable pub plan_at : Part PlanResult
 plan_at [] = None
@@ -211,29 +226,37 @@ request_at bytes =
       queue = x.1.1.1.1.1.1.0;
       dependencies = x.1.1.1.1.1.1.1;
     })
-    (both_at source_at (both_at (below_at 1) (both_at mode_at (both_at truth_at (both_at truth_at (both_at (below_at 4) (both_at truth_at (list_at long_at))))))))
+    (both_at source_at (both_at (below_at 1)
+    (both_at mode_at (both_at truth_at
+    (both_at truth_at (both_at (below_at 4) (both_at truth_at (list_at long_at))))))))
     bytes
 
 -- ---- entries
 
 unfoldable pub submit_at : Part Entry
-submit_at bytes = made_at (λ x. Submit x.0 x.1.0 x.1.1.0 x.1.1.1) (both_at (number_at w64) (both_at (number_at w32) (both_at long_at request_at))) bytes
+submit_at bytes = made_at (λ x. Submit x.0 x.1.0 x.1.1.0 x.1.1.1)
+    (both_at (number_at w64) (both_at (number_at w32) (both_at long_at request_at))) bytes
 
 unfoldable pub cancel_at : Part Entry
 cancel_at bytes = made_at (λ x. Cancel x.0 x.1) (both_at (number_at w64) (number_at w32)) bytes
 
 unfoldable pub start_at : Part Entry
-start_at bytes = made_at (λ x. Start x.0 x.1.0 x.1.1) (both_at (number_at w64) (both_at (number_at w32) plan_at)) bytes
+start_at bytes = made_at (λ x. Start x.0 x.1.0 x.1.1)
+    (both_at (number_at w64) (both_at (number_at w32) plan_at)) bytes
 
 unfoldable pub batch_at : Part Entry
 batch_at bytes =
-    made_at (λ x. Batch x.0 x.1.0 x.1.1.0 x.1.1.1.0 x.1.1.1.1.0 x.1.1.1.1.1.0 x.1.1.1.1.1.1.0 x.1.1.1.1.1.1.1.0 x.1.1.1.1.1.1.1.1)
-    (both_at (number_at w64) (both_at (number_at w32) (both_at (number_at w32) (both_at (number_at w64) (both_at (number_at w32) (both_at digest_at
+    made_at (λ x. Batch x.0 x.1.0 x.1.1.0 x.1.1.1.0 x.1.1.1.1.0 x.1.1.1.1.1.0 x.1.1.1.1.1.1.0
+    x.1.1.1.1.1.1.1.0 x.1.1.1.1.1.1.1.1)
+    (both_at (number_at w64) (both_at (number_at w32)
+    (both_at (number_at w32) (both_at (number_at w64)
+    (both_at (number_at w32) (both_at digest_at
     (both_at (number_at w32) (both_at (list_at log_at) (list_at change_at)))))))))
     bytes
 
 unfoldable pub feed_end_at : Part Entry
-feed_end_at bytes = made_at (λ x. End x.0 x.1.0 x.1.1.0 x.1.1.1) (both_at (number_at w64) (both_at (number_at w32) (both_at (number_at w32) end_at))) bytes
+feed_end_at bytes = made_at (λ x. End x.0 x.1.0 x.1.1.0 x.1.1.1)
+    (both_at (number_at w64) (both_at (number_at w32) (both_at (number_at w32) end_at))) bytes
 
 unfoldable pub entry_at : Part Entry
 entry_at [] = None

@@ -55,12 +55,19 @@ IsEnd ends.Modified = Unit {0}
 -- the format is csv, and the parallelism one of four
 abbrev pub IsRequest : LoadRequest → Type 0
 IsRequest request =
-    (IsShortText request.source × (is_kept_source request.source ≡ true)) × ((request.format ≡ 0) × ((request.parallelism < 4) × IsList (λ id. id < 2 ^ 128) request.dependencies))
+    (IsShortText request.source × (is_kept_source request.source ≡ true))
+    × ((request.format ≡ 0) × ((request.parallelism < 4)
+    × IsList (λ id. id < 2 ^ 128) request.dependencies))
 
 abbrev pub IsEntry : Entry → Type 0
-IsEntry (Submit moment job id request) = (moment < 2 ^ 64) × ((job < 2 ^ 32) × ((id < 2 ^ 128) × IsRequest request))
+IsEntry (Submit moment job id request) =
+    (moment < 2 ^ 64) × ((job < 2 ^ 32) × ((id < 2 ^ 128) × IsRequest request))
 IsEntry (Cancel moment job) = (moment < 2 ^ 64) × (job < 2 ^ 32)
 IsEntry (Start moment job planned) = (moment < 2 ^ 64) × ((job < 2 ^ 32) × IsPlan planned)
 IsEntry (Batch moment job feed from rows digest duplicates logs changes) =
-    (moment < 2 ^ 64) × ((job < 2 ^ 32) × ((feed < 2 ^ 32) × ((from < 2 ^ 64) × ((rows < 2 ^ 32) × (IsDigest digest × ((duplicates < 2 ^ 32) × (IsList IsLog logs × IsList IsChange changes)))))))
-IsEntry (End moment job feed how) = (moment < 2 ^ 64) × ((job < 2 ^ 32) × ((feed < 2 ^ 32) × IsEnd how))
+    (moment < 2 ^ 64) × ((job < 2 ^ 32)
+    × ((feed < 2 ^ 32) × ((from < 2 ^ 64)
+    × ((rows < 2 ^ 32) × (IsDigest digest
+    × ((duplicates < 2 ^ 32) × (IsList IsLog logs × IsList IsChange changes)))))))
+IsEntry (End moment job feed how) =
+    (moment < 2 ^ 64) × ((job < 2 ^ 32) × ((feed < 2 ^ 32) × IsEnd how))

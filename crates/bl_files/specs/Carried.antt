@@ -1,4 +1,5 @@
--- The feeds of a new job: those that are kept of the previous load, and the files that were found besides.
+-- The feeds of a new job: those that are kept of the previous load, and the files that were found
+-- besides.
 use Rattle.std.specs.Prelude.{◌≡◌, ℕ, ◌≤◌, ◌<◌, nat_lt, nat_eq, Bool, true, if◌then◌else◌, ◌||◌, ◌↔◌, ◌⊎◌, List, [], map, length, Result, Ok, Err, Some, None}
 use Rattle.std.specs.declared.option.Option.{Option}
 use Rattle.std.specs.declared.cmp.Ordering.{Ordering}
@@ -27,7 +28,8 @@ is_kept feed = is_completed feed.status || nat_lt 0 feed.taken
 abbrev pub kept_status : FeedStatus → FeedStatus
 kept_status status = if is_completed status then Completed else NotStarted
 
--- A kept feed has its kind, records, digest, counts and logs. It stays completed, or is to be begun again behind its
+-- A kept feed has its kind, records, digest, counts and logs. It stays completed, or is to be begun
+-- again behind its
 -- records. Its end log goes.
 abbrev pub kept : Feed → Feed
 kept feed = record feed { status = kept_status feed.status; end_log = None }
@@ -66,14 +68,17 @@ new_feed file =
 
 -- a feed of this name is kept
 abbrev pub HasKept : List Feed → List ℕ → Type 0
-HasKept previous name = (feed : Feed) × Contains previous feed × (is_kept feed ≡ true) × (feed.name ≡ name)
+HasKept previous name = (feed : Feed) × Contains previous feed × (is_kept feed ≡ true)
+    × (feed.name ≡ name)
 
--- The feed is one of the new job: a previous one that is kept, found or not, or a new one of a file that was found and
+-- The feed is one of the new job: a previous one that is kept, found or not, or a new one of a file
+-- that was found and
 -- of whose name none is kept.
 abbrev pub IsCarriedFeed : List Feed → List Found → Feed → Type 0
 IsCarriedFeed previous found feed =
     ((old : Feed) × Contains previous old × (is_kept old ≡ true) × (feed ≡ kept old))
-    ⊎ ((file : Found) × Contains found file × (¬ HasKept previous file.name) × (feed ≡ new_feed file))
+    ⊎ ((file : Found) × Contains found file × (¬ HasKept previous file.name)
+    × (feed ≡ new_feed file))
 
 -- files that aren't read, then vertex files, then edge files
 abbrev pub kind_place : FeedKind → ℕ
@@ -83,12 +88,14 @@ kind_place Edge = 2
 
 -- each by the bytes of the names
 abbrev pub feed_cmp : Feed → Feed → Ordering
-feed_cmp a b = ordering_then (nat_cmp (kind_place a.kind) (kind_place b.kind)) (slice_cmp nat_cmp a.name b.name)
+feed_cmp a b = ordering_then (nat_cmp (kind_place a.kind) (kind_place b.kind))
+    (slice_cmp nat_cmp a.name b.name)
 
 -- just these feeds, in order, each once
-pub record AreCarried (previous : List Feed) (found : List Found) (carried : List Feed) : Type 0 where
-  pub each : (feed : Feed) → Contains carried feed ↔ IsCarriedFeed previous found feed
-  pub ordered : IsStrictlySortedBy feed_cmp carried
+pub record AreCarried (previous : List Feed) (found : List Found) (carried : List Feed) : Type 0
+  where
+    pub each : (feed : Feed) → Contains carried feed ↔ IsCarriedFeed previous found feed
+    pub ordered : IsStrictlySortedBy feed_cmp carried
 
 -- the most files that a job may have
 abbrev pub most_files : ℕ
@@ -96,12 +103,16 @@ most_files = 4096
 
 -- so many of them go on
 abbrev pub CarriedNumber : List Feed → List Found → ℕ → Type 0
-CarriedNumber previous found n = (carried : List Feed) × AreCarried previous found carried × (length carried ≡ n)
+CarriedNumber previous found n =
+    (carried : List Feed) × AreCarried previous found carried × (length carried ≡ n)
 
 -- there are at most so many of them, or they are too many
 abbrev pub Carries : List Feed → List Found → Result (List Feed) CarryRefusal → Type 0
-Carries previous found (Ok carried) = AreCarried previous found carried × (length carried ≤ most_files)
-Carries previous found (Err (TooMany n)) = (carried : List Feed) × AreCarried previous found carried × (length carried ≡ n) × (most_files < n)
+Carries previous found (Ok carried) =
+    AreCarried previous found carried × (length carried ≤ most_files)
+Carries previous found (Err (TooMany n)) =
+    (carried : List Feed) × AreCarried previous found carried × (length carried ≡ n)
+    × (most_files < n)
 Carries previous found (Err NoMemory) = Unit {0}
 
 -- ---- the feeds of a job

@@ -20,7 +20,8 @@ kept_row_logs feeds = drop (length (row_logs feeds) - most_logs) (row_logs feeds
 
 -- the logs of a feed, and then its end log
 abbrev pub feed_errors : ℕ → Feed → List ErrorEntry
-feed_errors place feed = map (λ log. record { feed = Some place; log = log }) (feed.logs ++ option_to_list feed.end_log)
+feed_errors place feed = map (λ log. record { feed = Some place; log = log })
+    (feed.logs ++ option_to_list feed.end_log)
 
 -- those of the feeds from a place on, of which the first is that of the first of them
 abbrev pub errors_from : ℕ → List Feed → List ErrorEntry
@@ -29,4 +30,5 @@ errors_from place (feed ∷ feeds) = feed_errors place feed ++ errors_from (plac
 
 -- feed by feed, counted from 1, and last the job's own end log
 abbrev pub error_feed : List Feed → Option Log → List ErrorEntry
-error_feed feeds end_log = errors_from 1 feeds ++ map (λ log. record { feed = None; log = log }) (option_to_list end_log)
+error_feed feeds end_log = errors_from 1 feeds
+    ++ map (λ log. record { feed = None; log = log }) (option_to_list end_log)

@@ -20,7 +20,8 @@ OfFiles P (TooManyFiles number) = Unit {0}
 
 -- each name is below the next one, by their bytes
 abbrev pub NamesRise : List Found → Type 0
-NamesRise found = AllAdjacentBelow (λ a b. slice_cmp nat_cmp a.name b.name ≡ Less) found (length found)
+NamesRise found = AllAdjacentBelow (λ a b. slice_cmp nat_cmp a.name b.name ≡ Less) found
+    (length found)
 
 abbrev pub HasRisingNames : PlanResult → Type 0
 HasRisingNames plan = OfFiles NamesRise plan

@@ -21,9 +21,27 @@ end_records (Some log) = if is_row_code log.code then 1 else 0
 -- the counters that an end log adds to
 abbrev pub of_class : Option ErrorClass → Counts
 of_class None = record { records = 0; duplicates = 0; parsing = 0; datatype = 0; insert = 0 }
-of_class (Some Parsing) = record { records = 0; duplicates = 0; parsing = 1; datatype = 0; insert = 0 }
-of_class (Some Datatype) = record { records = 0; duplicates = 0; parsing = 0; datatype = 1; insert = 0 }
-of_class (Some Insert) = record { records = 0; duplicates = 0; parsing = 0; datatype = 0; insert = 1 }
+of_class (Some Parsing) = record {
+  records = 0;
+  duplicates = 0;
+  parsing = 1;
+  datatype = 0;
+  insert = 0;
+}
+of_class (Some Datatype) = record {
+  records = 0;
+  duplicates = 0;
+  parsing = 0;
+  datatype = 1;
+  insert = 0;
+}
+of_class (Some Insert) = record {
+  records = 0;
+  duplicates = 0;
+  parsing = 0;
+  datatype = 0;
+  insert = 1;
+}
 
 abbrev pub end_counts : Option Log → Counts
 end_counts None = of_class None

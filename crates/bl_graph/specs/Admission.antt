@@ -22,11 +22,14 @@ use Rattle.bl_graph.specs.Graph.{Graph, Ends, has_vertex, labels_of, edge_of, va
 
 -- The labels of a vertex row: its own, or `vertex` where it has none and the vertex is new.
 abbrev pub given_labels : Graph → List ℕ → List (List ℕ) → List (List ℕ)
-given_labels graph id labels = if length labels == 0 && not (has_vertex graph id) then codes "vertex" ∷ [] else labels
+given_labels graph id labels =
+    if length labels == 0 && not (has_vertex graph id) then codes "vertex" ∷ [] else labels
 
 -- the labels that aren't there
 abbrev pub label_changes : Graph → List ℕ → List (List ℕ) → List Change
-label_changes graph id labels = map (λ label. AddLabel id label) (filter (λ label. not (set.contains (labels_of graph id) label)) (given_labels graph id labels))
+label_changes graph id labels =
+    map (λ label. AddLabel id label)
+    (filter (λ label. not (set.contains (labels_of graph id) label)) (given_labels graph id labels))
 
 -- the value is one of those
 abbrev pub is_among : List Value → Value → Bool
@@ -34,15 +37,20 @@ is_among values value = list_any (λ other. is_eq (value_cmp other value)) value
 
 -- the values at the property's key that a single one takes the place of, in order
 abbrev pub replaced : Graph → Side → List ℕ → Property → List Value
-replaced graph side id property = if property.single then filter (λ value. not (is_among property.values value)) (set.items (values_at graph side id property.key)) else []
+replaced graph side id property =
+    if property.single then filter (λ value. not (is_among property.values value))
+    (set.items (values_at graph side id property.key)) else []
 
 -- those of the property's values that aren't there
 abbrev pub added : Graph → Side → List ℕ → Property → List Value
-added graph side id property = filter (λ value. not (set.contains (values_at graph side id property.key) value)) property.values
+added graph side id property =
+    filter (λ value. not (set.contains (values_at graph side id property.key) value))
+    property.values
 
 abbrev pub property_changes : Graph → Side → List ℕ → Property → List Change
 property_changes graph side id property =
-    map (λ value. RemoveValue side id property.key value) (replaced graph side id property) ++ map (λ value. AddValue side id property.key value) (added graph side id property)
+    map (λ value. RemoveValue side id property.key value) (replaced graph side id property)
+    ++ map (λ value. AddValue side id property.key value) (added graph side id property)
 
 -- a single value is there, and another would take its place
 abbrev pub conflicts : Graph → Side → List ℕ → Property → Bool
@@ -50,7 +58,8 @@ conflicts graph side id property = not (length (replaced graph side id property)
 
 -- the first conflict, unless single values are to be updated
 abbrev pub conflict : Graph → Bool → Side → List ℕ → List Property → Option Property
-conflict graph update_single side id properties = if update_single then None else find (conflicts graph side id) properties
+conflict graph update_single side id properties =
+    if update_single then None else find (conflicts graph side id) properties
 
 -- a row without a change is a duplicate
 abbrev pub changed : List Change → Verdict
@@ -63,13 +72,16 @@ unless_conflict None changes = changed changes
 
 -- the edge has this label and these ends
 abbrev pub is_edge : Ends → List ℕ → List ℕ → List ℕ → Bool
-is_edge ends label from to = pointwise nat_eq ends.label label && pointwise nat_eq ends.from from && pointwise nat_eq ends.to to
+is_edge ends label from to = pointwise nat_eq ends.label label && pointwise nat_eq ends.from from &&
+    pointwise nat_eq ends.to to
 
 -- What stands against an edge row: another edge of this id, or a missing end of a new one.
 abbrev pub edge_refusal : Graph → Option Ends → List ℕ → List ℕ → List ℕ → Option LogCode
-edge_refusal graph (Some ends) label from to = if is_edge ends label from to then None else Some EdgeConflict
+edge_refusal graph (Some ends) label from to =
+    if is_edge ends label from to then None else Some EdgeConflict
 edge_refusal graph None label from to =
-    if not (has_vertex graph from) then Some FromMissing else (if not (has_vertex graph to) then Some ToMissing else None)
+    if not (has_vertex graph from) then Some FromMissing
+    else (if not (has_vertex graph to) then Some ToMissing else None)
 
 abbrev pub edge_changes : Option Ends → List ℕ → List ℕ → List ℕ → List ℕ → List Change
 edge_changes (Some ends) id label from to = []
@@ -81,8 +93,11 @@ unless_refused None verdict = verdict
 
 abbrev pub admit : Graph → Bool → Row → Verdict
 admit graph update_single (vertex_row id labels properties) =
-    unless_conflict (conflict graph update_single Vertex id properties) (label_changes graph id labels ++ flat_map (property_changes graph Vertex id) properties)
+    unless_conflict (conflict graph update_single Vertex id properties)
+    (label_changes graph id labels ++ flat_map (property_changes graph Vertex id) properties)
 admit graph update_single (edge_row id label from to properties) =
     unless_refused (edge_refusal graph (edge_of graph id) label from to)
-    (unless_conflict (conflict graph update_single Edge id properties) (edge_changes (edge_of graph id) id label from to ++ flat_map (property_changes graph Edge id) properties))
+    (unless_conflict (conflict graph update_single Edge id properties)
+    (edge_changes (edge_of graph id) id label from to
+    ++ flat_map (property_changes graph Edge id) properties))
 admit graph update_single (Bad code column) = Refused code column

@@ -31,7 +31,8 @@ pub record AreProper (properties : List Property) : Type 0 where
 -- No label and no key stands there twice, and the properties of an edge are single.
 abbrev pub IsProperRow : Row → Type 0
 IsProperRow (vertex_row id labels properties) = AreApart labels × AreProper properties
-IsProperRow (edge_row id label from to properties) = AreProper properties × All (λ property. property.single ≡ true) properties
+IsProperRow (edge_row id label from to properties) =
+    AreProper properties × All (λ property. property.single ≡ true) properties
 IsProperRow (Bad code column) = Unit {0}
 
 -- Valid rows are proper.
@@ -52,18 +53,26 @@ after_verdict graph (Refused code column) = graph
 
 -- A proper row makes a valid graph of a valid one.
 abbrev pub AdmissionKeepsValidity : Type 0
-AdmissionKeepsValidity = (graph : Graph) (update_single : Bool) (row : Row) → IsProperRow row → IsValidGraph graph → IsValidGraph (after_verdict graph (admit graph update_single row))
+AdmissionKeepsValidity = (graph : Graph) (update_single : Bool) (row : Row) → IsProperRow row →
+    IsValidGraph graph → IsValidGraph (after_verdict graph (admit graph update_single row))
 
 -- The values of a property are there, and where it is single no others.
-pub record HasProperty (graph : Graph) (side : Side) (id : List ℕ) (property : Property) : Type 0 where
-  pub has : All (λ value. set.contains (values_at graph side id property.key) value ≡ true) property.values
-  pub only : property.single ≡ true → (value : Value) → set.contains (values_at graph side id property.key) value ≡ true → is_among property.values value ≡ true
+pub record HasProperty (graph : Graph) (side : Side) (id : List ℕ) (property : Property) : Type 0
+  where
+    pub has : All (λ value. set.contains (values_at graph side id property.key) value ≡ true)
+        property.values
+    pub only : property.single ≡ true → (value : Value) →
+        set.contains (values_at graph side id property.key) value ≡ true →
+        is_among property.values value ≡ true
 
 -- The graph has all that the row says.
 abbrev pub HasRow : Graph → Row → Type 0
 HasRow graph (vertex_row id labels properties) =
-    (has_vertex graph id ≡ true) × All (λ label. set.contains (labels_of graph id) label ≡ true) labels × All (HasProperty graph Vertex id) properties
-HasRow graph (edge_row id label from to properties) = (edge_of graph id ≡ Some (record { label = label; from = from; to = to })) × All (HasProperty graph Edge id) properties
+    (has_vertex graph id ≡ true) × All (λ label. set.contains (labels_of graph id) label ≡ true)
+    labels × All (HasProperty graph Vertex id) properties
+HasRow graph (edge_row id label from to properties) =
+    (edge_of graph id ≡ Some (record { label = label; from = from; to = to }))
+    × All (HasProperty graph Edge id) properties
 HasRow graph (Bad code column) = ⊥
 
 -- a duplicate says nothing new

@@ -1,4 +1,5 @@
--- How the logic stores the values of models: plumbing that no clause cites, which a reader can skip.
+-- How the logic stores the values of models: plumbing that no clause cites, which a reader can
+-- skip.
 use Rattle.std.specs.Prelude.{◌≡◌, ◌⊎◌, ℤ, ℕ, List, Bool as Truth, refl}
 use Rattle.std.proofs.Common.{inl, inr}
 use Rattle.std.specs.Coded.{Coded, code_by, coded×, coded⊎, coded_bool, coded_ℤ, coded_ℕ, coded_list}
@@ -45,7 +46,10 @@ text_code = coded_list coded_ℕ
 
 abbrev pub value_code : Coded Value
 value_code =
-    code_by (Truth ⊎ (List ℕ ⊎ Numbers)) (coded⊎ coded_bool (coded⊎ text_code (coded⊎ coded_ℤ (coded⊎ coded_ℤ (coded⊎ coded_ℤ (coded⊎ coded_ℤ coded_ℤ)))))) cases from_cases from_cases-cases
+    code_by (Truth ⊎ (List ℕ ⊎ Numbers))
+    (coded⊎ coded_bool (coded⊎ text_code
+    (coded⊎ coded_ℤ (coded⊎ coded_ℤ (coded⊎ coded_ℤ (coded⊎ coded_ℤ coded_ℤ)))))) cases
+    from_cases from_cases-cases
 
 abbrev pub texts_code : Coded Texts
 texts_code = set.code text_code
@@ -70,11 +74,17 @@ labels_code = map.code text_code texts_code
 
 abbrev pub ends_code : Coded Ends
 ends_code =
-    code_by (List ℕ × (List ℕ × List ℕ)) (coded× text_code (coded× text_code text_code)) (λ e. (e.label, (e.from, e.to))) (λ p. record { label = p.0; from = p.1.0; to = p.1.1 }) (λ _. refl)
+    code_by (List ℕ × (List ℕ × List ℕ)) (coded× text_code (coded× text_code text_code))
+    (λ e. (e.label, (e.from, e.to))) (λ p. record { label = p.0; from = p.1.0; to = p.1.1 })
+    (λ _. refl)
 
 abbrev pub edges_code : Coded (ByText Ends)
 edges_code = map.code text_code ends_code
 
 abbrev pub graph_code : Coded Graph
 graph_code =
-    code_by ((ByText Texts × ByText Ends) × (Properties × Properties)) (coded× (coded× labels_code edges_code) (coded× properties_code properties_code)) (λ g. ((g.labels, g.edges), (g.vertex_values, g.edge_values))) (λ p. record { labels = p.0.0; edges = p.0.1; vertex_values = p.1.0; edge_values = p.1.1 }) (λ _. refl)
+    code_by ((ByText Texts × ByText Ends) × (Properties × Properties))
+    (coded× (coded× labels_code edges_code) (coded× properties_code properties_code))
+    (λ g. ((g.labels, g.edges), (g.vertex_values, g.edge_values)))
+    (λ p. record { labels = p.0.0; edges = p.0.1; vertex_values = p.1.0; edge_values = p.1.1 })
+    (λ _. refl)

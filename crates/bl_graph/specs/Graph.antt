@@ -48,7 +48,12 @@ pub record Graph : Type 0 where
   pub edge_values : Properties
 
 abbrev pub empty : Graph
-empty = record { labels = map.empty; edges = map.empty; vertex_values = map.empty; edge_values = map.empty }
+empty = record {
+  labels = map.empty;
+  edges = map.empty;
+  vertex_values = map.empty;
+  edge_values = map.empty;
+}
 
 abbrev pub has_vertex : Graph → List ℕ → Bool
 has_vertex graph id = map.contains_key graph.labels id

@@ -26,7 +26,8 @@ abbrev pub at_number : ByNumber Values → ℕ → Values
 at_number all number = unwrap_or (map.get all number) set.empty
 
 -- the map with this at a key, or with nothing there
-abbrev pub written : {K X : Type 0} {R : K → K → Ordering} → map.FinMap R X → K → Option X → map.FinMap R X
+abbrev pub written : {K X : Type 0} {R : K → K → Ordering} → map.FinMap R X → K → Option X →
+    map.FinMap R X
 written all key (Some x) = map.insert all key x
 written all key None = map.remove all key
 
@@ -37,12 +38,14 @@ filled all = if map.len all == 0 then None else Some all
 -- values that were given one by one, each with its number
 abbrev pub nested : List (ℕ × Value) → ByNumber Values
 nested [] = map.empty
-nested (pair ∷ pairs) = map.insert (nested pairs) pair.0 (set.insert (at_number (nested pairs) pair.0) pair.1)
+nested (pair ∷ pairs) = map.insert (nested pairs) pair.0
+    (set.insert (at_number (nested pairs) pair.0) pair.1)
 
 -- no value is given twice
 abbrev pub AreOnce : List (ℕ × Value) → Type 0
 AreOnce [] = Unit {0}
-AreOnce (pair ∷ pairs) = (set.contains (at_number (nested pairs) pair.0) pair.1 ≡ false) × AreOnce pairs
+AreOnce (pair ∷ pairs) = (set.contains (at_number (nested pairs) pair.0) pair.1 ≡ false)
+    × AreOnce pairs
 
 abbrev pub values_count : ByNumber Values → ℕ
 values_count all = total set.len (map.values all)
@@ -50,7 +53,8 @@ values_count all = total set.len (map.values all)
 -- what stands at each name, where the names have the numbers from this one on
 abbrev pub named_from : {X : Type 0} → ℕ → List (List ℕ) → ByNumber X → ByText X
 named_from number [] all = map.empty
-named_from number (name ∷ names) all = written (named_from (number + 1) names all) name (map.get all number)
+named_from number (name ∷ names) all =
+    written (named_from (number + 1) names all) name (map.get all number)
 
 -- What stands at the number of each name.
 abbrev pub named : {X : Type 0} → List (List ℕ) → ByNumber X → ByText X

@@ -30,22 +30,28 @@ pub record AreSame {X : Type 0} (none : X) (old new : List (List ℕ × X)) : Ty
   pub front : IsFront (keys_of old) (keys_of new)
 
 -- the id has this place, with something there
-pub record IsPlace {X : Type 0} (owners : List (List ℕ × X)) (id : List ℕ) (place : ℕ) : Type 0 where
-  pub owner : X
-  pub at : slice_get owners place ≡ Some (id, owner)
-  pub is : found owners id ≡ Some owner
+pub record IsPlace {X : Type 0} (owners : List (List ℕ × X)) (id : List ℕ) (place : ℕ) : Type 0
+  where
+    pub owner : X
+    pub at : slice_get owners place ≡ Some (id, owner)
+    pub is : found owners id ≡ Some owner
 
 -- another owner at an id that is there
 pub record IsSet {X : Type 0} (old new : List (List ℕ × X)) (id : List ℕ) (owner : X) : Type 0 where
-  pub at : (other : List ℕ) → found new other ≡ cond (pointwise nat_eq id other) (Some owner) (found old other)
+  pub at : (other : List ℕ) → found new other
+      ≡ cond (pointwise nat_eq id other) (Some owner) (found old other)
   pub keys : keys_of new ≡ keys_of old
 
 module _ {X : Type 0} (owner : Owner X) (key : ℕ) (value : Value) where
   abbrev pub with_value : Owner X
-  with_value = record owner { values = map.insert owner.values key (set.insert (at_number owner.values key) value) }
+  with_value = record owner {
+    values = map.insert owner.values key (set.insert (at_number owner.values key) value);
+  }
 
   abbrev pub without_value : Owner X
-  without_value = record owner { values = written owner.values key (filled (set.remove (at_number owner.values key) value)) }
+  without_value = record owner {
+    values = written owner.values key (filled (set.remove (at_number owner.values key) value));
+  }
 
 -- a vertex, by the numbers of its labels, and an edge
 abbrev pub Vertex : Type 0
@@ -72,7 +78,8 @@ ends_at (Some label) (Some from) (Some to) = Some (record { label = label; from 
 ends_at label from to = None
 
 abbrev pub ends_of : List (List ℕ) → List (List ℕ) → Option EndNumbers → Option Ends
-ends_of names ids (Some ends) = ends_at (slice_get names ends.label) (slice_get ids ends.from) (slice_get ids ends.to)
+ends_of names ids (Some ends) =
+    ends_at (slice_get names ends.label) (slice_get ids ends.from) (slice_get ids ends.to)
 ends_of names ids None = None
 
 abbrev pub labels_said : List (List ℕ) → Vertex → Option Texts
@@ -105,8 +112,10 @@ abbrev pub no_edge : Edge
 no_edge = bare None
 
 -- All numbers are those of texts.
-pub record IsSound (names : List (List ℕ)) (vertices : List (List ℕ × Vertex)) (edges : List (List ℕ × Edge)) : Type 0 where
+pub record IsSound (names : List (List ℕ)) (vertices : List (List ℕ × Vertex))
+    (edges : List (List ℕ × Edge)) : Type 0 where
   pub labels : (id : List ℕ) → IsBelow (length names) (owner_at no_vertex vertices id).own
   pub vertex_values : (id : List ℕ) → IsBelow (length names) (owner_at no_vertex vertices id).values
-  pub ends : (id : List ℕ) → AreWithin (length names) (length vertices) (owner_at no_edge edges id).own
+  pub ends : (id : List ℕ) → AreWithin (length names) (length vertices)
+      (owner_at no_edge edges id).own
   pub edge_values : (id : List ℕ) → IsBelow (length names) (owner_at no_edge edges id).values

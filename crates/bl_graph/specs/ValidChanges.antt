@@ -16,7 +16,8 @@ use Rattle.bl_graph.specs.Admission.{admit}
 
 -- each value of the graph is in the range of its type
 abbrev pub HasValidValues : Graph → Type 0
-HasValidValues graph = (side : Side) (id key : List ℕ) (value : Value) → set.contains (values_at graph side id key) value ≡ true → IsValue value
+HasValidValues graph = (side : Side) (id key : List ℕ) (value : Value) →
+    set.contains (values_at graph side id key) value ≡ true → IsValue value
 
 -- the changes of a verdict are valid, if there are any
 abbrev pub AreValidChanges : Verdict → Type 0
@@ -26,8 +27,10 @@ AreValidChanges (Refused code column) = Unit {0}
 
 -- The changes of a valid row are valid, the removals among them.
 abbrev pub RowsGiveValidChanges : Type 0
-RowsGiveValidChanges = (graph : Graph) (update_single : Bool) (row : Row) → IsRow row → HasValidValues graph → AreValidChanges (admit graph update_single row)
+RowsGiveValidChanges = (graph : Graph) (update_single : Bool) (row : Row) → IsRow row →
+    HasValidValues graph → AreValidChanges (admit graph update_single row)
 
 -- Valid changes leave valid values in a graph that has no others.
 abbrev pub ValidChangesKeepValues : Type 0
-ValidChangesKeepValues = (graph : Graph) (changes : List Change) → HasValidValues graph → All IsChange changes → HasValidValues (after graph changes)
+ValidChangesKeepValues = (graph : Graph) (changes : List Change) → HasValidValues graph →
+    All IsChange changes → HasValidValues (after graph changes)

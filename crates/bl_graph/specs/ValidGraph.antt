@@ -16,9 +16,11 @@ pub record IsFull (keys : ByText Values) : Type 0 where
 
 pub record IsValidGraph (graph : Graph) : Type 0 where
   -- the ends of an edge are vertices
-  pub ends : (id : List ℕ) → IfSome (edge_of graph id) (λ ends. (has_vertex graph ends.from ≡ true) × (has_vertex graph ends.to ≡ true))
+  pub ends : (id : List ℕ) → IfSome (edge_of graph id)
+      (λ ends. (has_vertex graph ends.from ≡ true) × (has_vertex graph ends.to ≡ true))
   -- what has a value is there
-  pub owners : (side : Side) (id key : List ℕ) (value : Value) → set.contains (values_at graph side id key) value ≡ true → has_owner graph side id ≡ true
+  pub owners : (side : Side) (id key : List ℕ) (value : Value) →
+      set.contains (values_at graph side id key) value ≡ true → has_owner graph side id ≡ true
   -- a key of an edge has one value at most
   pub one : (id key : List ℕ) → set.len (values_at graph Edge id key) ≤ 1
   -- no vertex is without a label, no key without a value, and no owner of values without a key
@@ -27,4 +29,5 @@ pub record IsValidGraph (graph : Graph) : Type 0 where
 
 -- Changes that fit, each in turn, make a valid graph of a valid one.
 abbrev pub KeepsValidity : Type 0
-KeepsValidity = (graph : Graph) (changes : List Change) → IsValidGraph graph → fit graph changes ≡ true → IsValidGraph (after graph changes)
+KeepsValidity = (graph : Graph) (changes : List Change) → IsValidGraph graph →
+    fit graph changes ≡ true → IsValidGraph (after graph changes)

@@ -28,7 +28,8 @@ impl Graph {
     pub fn admit(&self, update_single: bool, row: &Row) -> Result<Verdict, NoMemory>
         ensures verdict { IfOk result (λ verdict. verdict ≡ admit self.now update_single row.now) }
         ensures fit { IfOk result (λ verdict. IsProperRow row.now → DoesFit self.now verdict) }
-        ensures taken { IfOk result (λ verdict. IsProperRow row.now → IsTaken self.now row.now verdict) }
+        ensures taken { IfOk result (λ verdict. IsProperRow row.now →
+            IsTaken self.now row.now verdict) }
         ensures duplicate { IfOk result (SaysNothingNew self.now row.now) }
     {
         self.admit_row(update_single, row)
@@ -61,7 +62,8 @@ impl Graph {
         labels: &List<Text>,
         properties: &List<Property>,
     ) -> Result<Verdict, NoMemory>
-        ensures { IfOk result (λ verdict. verdict ≡ admit self.now update_single (Row.Vertex id.now labels.now properties.now)) }
+        ensures { IfOk result (λ verdict.
+            verdict ≡ admit self.now update_single (Row.Vertex id.now labels.now properties.now)) }
     {
         let found = self.vertex(id);
         let values = &found.values;
@@ -82,7 +84,9 @@ impl Graph {
         to: &Text,
         properties: &List<Property>,
     ) -> Result<Verdict, NoMemory>
-        ensures { IfOk result (λ verdict. verdict ≡ admit self.now update_single (Row.Edge id.now label.now from.now to.now properties.now)) }
+        ensures { IfOk result (λ verdict.
+            verdict ≡ admit self.now update_single
+            (Row.Edge id.now label.now from.now to.now properties.now)) }
     {
         let found = self.found_edge(id);
         if let Some(code) = self.edge_refusal(id, &found, label, from, to) {
@@ -106,7 +110,8 @@ impl Graph {
         to: &Text,
     ) -> Option<LogCode>
         requires { ends_found found.now ≡ edge_of self.now id.now }
-        ensures { result ≡ edge_refusal self.now (edge_of self.now id.now) label.now from.now to.now }
+        ensures { result ≡ edge_refusal self.now (edge_of self.now id.now) label.now from.now
+            to.now }
     {
         match found.ends {
             Some(ends) if ends.is(label, from, to) => None,

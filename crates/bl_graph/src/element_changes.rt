@@ -39,7 +39,9 @@ impl Graph {
         changes: &mut List<Change>,
     ) -> Result<(), NoMemory>
         requires { there.now ≡ labels_of self.now id.now }
-        ensures { OnOk result (changes.new ≡ changes.old ++ map (λ label. Change.AddLabel id.now label) (filter (λ label. not (set.contains (labels_of self.now id.now) label)) labels.now)) }
+        ensures { OnOk result (changes.new ≡ changes.old
+            ++ map (λ label. Change.AddLabel id.now label)
+            (filter (λ label. not (set.contains (labels_of self.now id.now) label)) labels.now)) }
     {
         for label in labels.as_slice() {
             self.push_label(id, there, label, changes)?;
@@ -55,7 +57,10 @@ impl Graph {
         changes: &mut List<Change>,
     ) -> Result<(), NoMemory>
         requires { there.now ≡ labels_of self.now id.now }
-        ensures { OnOk result (changes.new ≡ changes.old ++ map (λ label. Change.AddLabel id.now label) (filter (λ label. not (set.contains (labels_of self.now id.now) label)) (label.now ∷ []))) }
+        ensures { OnOk result (changes.new ≡ changes.old
+            ++ map (λ label. Change.AddLabel id.now label)
+            (filter (λ label. not (set.contains (labels_of self.now id.now) label))
+            (label.now ∷ []))) }
     {
         if there.contains(label) {
             return Ok(());
@@ -75,7 +80,8 @@ impl Graph {
         to: &Text,
     ) -> Result<List<Change>, NoMemory>
         requires { ends_found found.now ≡ edge_of self.now id.now }
-        ensures { IfOk result (λ changes. changes ≡ edge_changes (edge_of self.now id.now) id.now label.now from.now to.now) }
+        ensures { IfOk result (λ changes.
+            changes ≡ edge_changes (edge_of self.now id.now) id.now label.now from.now to.now) }
     {
         let mut changes = List::new(self.allocator());
         if found.ends.is_some() {

@@ -14,8 +14,8 @@ use std::marker::Model;
 /// The labels of one vertex.
 #[derive(Drop)]
 pub struct FoundLabels<'a> {
-    pub(crate) names: &'a Names,
-    pub(crate) numbers: Option<&'a Numbers>,
+    pub names: &'a Names,
+    pub numbers: Option<&'a Numbers>,
 }
 
 impl<'a> Model for FoundLabels<'a> {
@@ -49,8 +49,8 @@ impl<'a> FoundLabels<'a> {
 /// The values of one vertex or edge.
 #[derive(Drop)]
 pub struct FoundValues<'a> {
-    pub(crate) names: &'a Names,
-    pub(crate) values: Option<&'a NumberedValues>,
+    pub names: &'a Names,
+    pub values: Option<&'a NumberedValues>,
 }
 
 impl<'a> Model for FoundValues<'a> {
@@ -137,7 +137,8 @@ impl<'a> FoundKey<'a> {
 
     /// Whether a value other than the given ones is there.
     pub fn has_other(&self, given: &List<Value>) -> bool
-        ensures { result ≡ not (length (filter (λ value. not (is_among given.now value)) (set.items self.now)) == 0) }
+        ensures { result ≡ not (length
+            (filter (λ value. not (is_among given.now value)) (set.items self.now)) == 0) }
     {
         match self.values {
             Some(values) => values.has_other(self.number, given),
@@ -159,17 +160,17 @@ impl<'a> FoundKey<'a> {
 /// What is found of one vertex. Labels and values may be asked for where it isn't there.
 #[derive(Drop)]
 pub struct FoundVertex<'a> {
-    pub(crate) is_known: bool,
-    pub(crate) labels: FoundLabels<'a>,
-    pub(crate) values: FoundValues<'a>,
+    pub is_known: bool,
+    pub labels: FoundLabels<'a>,
+    pub values: FoundValues<'a>,
 }
 
 /// The label and the two ends of an edge.
 #[derive(Clone, Copy)]
 pub struct FoundEnds<'a> {
-    pub(crate) label: &'a Text,
-    pub(crate) from: &'a Text,
-    pub(crate) to: &'a Text,
+    pub label: &'a Text,
+    pub from: &'a Text,
+    pub to: &'a Text,
 }
 
 impl<'a> FoundEnds<'a> {
@@ -183,6 +184,6 @@ impl<'a> FoundEnds<'a> {
 /// What is found of one edge. Values may be asked for where it isn't there.
 #[derive(Drop)]
 pub struct FoundEdge<'a> {
-    pub(crate) ends: Option<FoundEnds<'a>>,
-    pub(crate) values: FoundValues<'a>,
+    pub ends: Option<FoundEnds<'a>>,
+    pub values: FoundValues<'a>,
 }

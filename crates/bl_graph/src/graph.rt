@@ -6,7 +6,15 @@ ghost use Rattle.bl_graph.specs.ValidChanges.{HasValidValues};
 ghost use Rattle.bl_graph.specs.ValidGraph.{IsValidGraph};
 ghost use Rattle.std.specs.Option.{option_map};
 ghost use Rattle.bl_graph.specs.Found.{ends_found};
-ghost use Rattle.bl_graph.specs.Graph.{empty, has_owner, has_vertex, keys_in, labels_of, edge_of, properties};
+ghost use Rattle.bl_graph.specs.Graph.{
+  empty,
+  has_owner,
+  has_vertex,
+  keys_in,
+  labels_of,
+  edge_of,
+  properties,
+};
 ghost use Rattle.bl_graph.specs.Replay.{IsAfterFront, after, after_one, fits, may_take};
 
 use crate::owner::{find_place, insert_label, insert_value, place_of, remove_value, set_ends};
@@ -36,7 +44,8 @@ impl Model for Graph {
 
     ghost view = { λ g. graph_of g.tables.names g.tables.vertices.entries g.tables.edges.entries };
 
-    ghost invariant = { λ g. IsSound g.tables.names g.tables.vertices.entries g.tables.edges.entries };
+    ghost invariant = { λ g. IsSound g.tables.names g.tables.vertices.entries
+        g.tables.edges.entries };
 }
 
 impl Graph {
@@ -80,7 +89,9 @@ impl Graph {
 
     /// The label and the two ends, from and to, of an edge. It takes no memory.
     pub fn edge(&self, id: &Text) -> Option<(&Text, &Text, &Text)>
-        ensures { option_map (λ parts. record { label = parts.0.now; from = parts.1.now; to = parts.2.now }) result ≡ edge_of self.now id.now }
+        ensures { option_map (λ parts.
+            record { label = parts.0.now; from = parts.1.now; to = parts.2.now }) result
+            ≡ edge_of self.now id.now }
     {
         let ends = self.found_edge(id).ends?;
         Some((ends.label, ends.from, ends.to))
@@ -167,7 +178,8 @@ impl Graph {
     pub fn apply(&mut self, change: &Change) -> Result<(), NoMemory>
         ensures ok { OnOk result (self.new ≡ after_one self.old change.now) }
         ensures err { OnErr result (self.new ≡ self.old) }
-        ensures valid { OnOk result (fits self.old change.now ≡ true → IsValidGraph self.old → IsValidGraph self.new) }
+        ensures valid { OnOk result (fits self.old change.now ≡ true → IsValidGraph self.old →
+            IsValidGraph self.new) }
     {
         let mut guess = 0;
         self.make(change, &mut guess)
@@ -217,7 +229,8 @@ impl Graph {
     }
 
     fn add_label(&mut self, id: &Text, label: &Text, guess: &mut usize) -> Result<(), NoMemory>
-        ensures ok { OnOk result (self.new ≡ after_one self.old (Change.AddLabel id.now label.now)) }
+        ensures ok { OnOk result (self.new
+            ≡ after_one self.old (Change.AddLabel id.now label.now)) }
         ensures err { OnErr result (self.new ≡ self.old) }
     {
         let (place, label) = self.tables.vertex_named(id, label, *guess)?;
@@ -233,7 +246,8 @@ impl Graph {
         to: &Text,
         guess: &mut usize,
     ) -> Result<(), NoMemory>
-        ensures ok { OnOk result (self.new ≡ after_one self.old (Change.AddEdge id.now label.now from.now to.now)) }
+        ensures ok { OnOk result (self.new
+            ≡ after_one self.old (Change.AddEdge id.now label.now from.now to.now)) }
         ensures err { OnErr result (self.new ≡ self.old) }
     {
         let ends = self.tables.ends_of(label, from, to)?;
@@ -251,7 +265,8 @@ impl Graph {
         value: &Value,
         guess: &mut usize,
     ) -> Result<(), NoMemory>
-        ensures ok { OnOk result (self.new ≡ after_one self.old (Change.AddValue side id.now key.now value.now)) }
+        ensures ok { OnOk result (self.new
+            ≡ after_one self.old (Change.AddValue side id.now key.now value.now)) }
         ensures err { OnErr result (self.new ≡ self.old) }
     {
         match side {
@@ -267,7 +282,8 @@ impl Graph {
         value: &Value,
         guess: &mut usize,
     ) -> Result<(), NoMemory>
-        ensures ok { OnOk result (self.new ≡ after_one self.old (Change.AddValue Side.Vertex id.now key.now value.now)) }
+        ensures ok { OnOk result (self.new
+            ≡ after_one self.old (Change.AddValue Side.Vertex id.now key.now value.now)) }
         ensures err { OnErr result (self.new ≡ self.old) }
     {
         let (place, key) = self.tables.vertex_named(id, key, *guess)?;
@@ -288,7 +304,8 @@ impl Graph {
         value: &Value,
         guess: &mut usize,
     ) -> Result<(), NoMemory>
-        ensures ok { OnOk result (self.new ≡ after_one self.old (Change.AddValue Side.Edge id.now key.now value.now)) }
+        ensures ok { OnOk result (self.new
+            ≡ after_one self.old (Change.AddValue Side.Edge id.now key.now value.now)) }
         ensures err { OnErr result (self.new ≡ self.old) }
     {
         let (place, key) = self.tables.edge_named(id, key, *guess)?;
@@ -306,7 +323,8 @@ impl Graph {
     }
 
     fn remove_vertex_value(&mut self, id: &Text, key: &Text, value: &Value, guess: &mut usize)
-        ensures { self.new ≡ after_one self.old (Change.RemoveValue Side.Vertex id.now key.now value.now) }
+        ensures { self.new ≡ after_one self.old
+            (Change.RemoveValue Side.Vertex id.now key.now value.now) }
     {
         let Some(key) = self.tables.names.number_of(key) else {
             return;
@@ -319,7 +337,8 @@ impl Graph {
     }
 
     fn remove_edge_value(&mut self, id: &Text, key: &Text, value: &Value, guess: &mut usize)
-        ensures { self.new ≡ after_one self.old (Change.RemoveValue Side.Edge id.now key.now value.now) }
+        ensures { self.new ≡ after_one self.old
+            (Change.RemoveValue Side.Edge id.now key.now value.now) }
     {
         let Some(key) = self.tables.names.number_of(key) else {
             return;

@@ -3,7 +3,14 @@ ghost use Rattle.std.specs.Prelude.{◌≡◌, ◌==◌, false, min, IfOk, OnOk,
 ghost use Rattle.std.specs.FinMap as map;
 ghost use Rattle.bl_outside.specs.OrderedSet as set;
 ghost use Rattle.std.specs.Option.{option_copied, unwrap_or};
-ghost use Rattle.bl_graph.specs.Numbered.{at_number, by_number, filled, values_count, without, written};
+ghost use Rattle.bl_graph.specs.Numbered.{
+  at_number,
+  by_number,
+  filled,
+  values_count,
+  without,
+  written,
+};
 
 use crate::{Copied, ValueSet, copy_map};
 use bl_outside::NoMemory;
@@ -60,7 +67,8 @@ impl KeyedValues {
     }
 
     pub fn insert(&mut self, key: usize, value: &Value) -> Result<(), NoMemory>
-        ensures ok { OnOk result (self.new ≡ map.insert self.old key (set.insert (at_number self.old key) value.now)) }
+        ensures ok { OnOk result (self.new
+            ≡ map.insert self.old key (set.insert (at_number self.old key) value.now)) }
         ensures err { OnErr result (self.new ≡ self.old) }
     {
         let copy = value.copy(self.alloc)?;
@@ -76,7 +84,8 @@ impl KeyedValues {
 
     /// Removes a value, and the key after its last one. It takes no memory.
     pub fn remove(&mut self, key: usize, value: &Value)
-        ensures { self.new ≡ written self.old key (filled (set.remove (at_number self.old key) value.now)) }
+        ensures { self.new ≡ written self.old key
+            (filled (set.remove (at_number self.old key) value.now)) }
     {
         if !remove_at(&mut self.keys, key, value) {
             return;
@@ -96,9 +105,13 @@ impl Copied for KeyedValues {
 
 // Removes a value at a key. True where none is left there.
 fn remove_at(keys: &mut BTreeMap<usize, ValueSet>, key: usize, value: &Value) -> bool
-    ensures empty { result ≡ (set.len (set.remove (at_number (by_number keys.old.entries) key) value.now) == 0) }
-    ensures left { result ≡ false → by_number keys.new.entries ≡ map.insert (by_number keys.old.entries) key (set.remove (at_number (by_number keys.old.entries) key) value.now) }
-    ensures others { without (by_number keys.new.entries) key ≡ without (by_number keys.old.entries) key }
+    ensures empty { result ≡ (set.len
+        (set.remove (at_number (by_number keys.old.entries) key) value.now) == 0) }
+    ensures left { result ≡ false →
+        by_number keys.new.entries ≡ map.insert (by_number keys.old.entries) key
+        (set.remove (at_number (by_number keys.old.entries) key) value.now) }
+    ensures others { without (by_number keys.new.entries) key
+        ≡ without (by_number keys.old.entries) key }
 {
     match keys.get_mut(&key) {
         Some(values) => {

@@ -1,7 +1,8 @@
 //! The property graph: what a row does to it, and the change applied.
 //!
 //! [`Graph::admit`] says what a row does to a graph: a list of changes, nothing (a duplicate), or a
-//! refusal with its code. [`Graph::apply`] makes one change, and [`Graph::fits`] is the test that it
+//! refusal with its code. [`Graph::apply`] makes one change, and [`Graph::fits`] is the test that
+//! it
 //! may be made. Contracts see the graph as the finite maps of its definition. Inside it is held by
 //! numbers of ids and names (`Tables`, `Owner`), which no public clause sees.
 //!

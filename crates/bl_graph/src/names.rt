@@ -59,7 +59,8 @@ impl Names {
 
     /// The number of a text, which is the next one where it had none. Numbers stay.
     pub fn add(&mut self, text: &Text) -> Result<usize, NoMemory>
-        ensures number { IfOk result (λ number. position (pointwise nat_eq text.now) self.new ≡ Some number) }
+        ensures number { IfOk result (λ number.
+            position (pointwise nat_eq text.now) self.new ≡ Some number) }
         ensures front { IsFront self.old self.new }
     {
         match self.texts.get_index_of(text) {

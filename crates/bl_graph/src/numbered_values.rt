@@ -1,5 +1,22 @@
 // The values of one vertex or edge, by the numbers of their keys.
-ghost use Rattle.std.specs.Prelude.{◌≡◌, ◌==◌, ◌&&◌, ◌++◌, ◌∷◌, [], cond, false, nat_eq, not, length, filter, min, IfOk, OnOk, OnErr};
+ghost use Rattle.std.specs.Prelude.{
+  ◌≡◌,
+  ◌==◌,
+  ◌&&◌,
+  ◌++◌,
+  ◌∷◌,
+  [],
+  cond,
+  false,
+  nat_eq,
+  not,
+  length,
+  filter,
+  min,
+  IfOk,
+  OnOk,
+  OnErr,
+};
 ghost use Rattle.std.specs.List.{list_any};
 ghost use Rattle.std.specs.FinMap as map;
 ghost use Rattle.std.specs.Ordering.{is_eq};
@@ -7,7 +24,14 @@ ghost use Rattle.bl_outside.specs.OrderedSet as set;
 ghost use Rattle.bl_value.specs.Order.{value_cmp};
 ghost use Rattle.bl_graph.specs.Admission.{is_among};
 ghost use Rattle.bl_graph.specs.Held.{AreHeldOnce, values_of};
-ghost use Rattle.bl_graph.specs.Numbered.{AreOnce, at_number, filled, nested, values_count, written};
+ghost use Rattle.bl_graph.specs.Numbered.{
+  AreOnce,
+  at_number,
+  filled,
+  nested,
+  values_count,
+  written,
+};
 
 use crate::{Copied, FEW, KeyedValues, ValueSet, is_among};
 use bl_outside::{List, NoMemory};
@@ -80,7 +104,9 @@ impl NumberedValues {
 
     /// Whether the key has a value other than the given ones.
     pub fn has_other(&self, key: usize, given: &List<Value>) -> bool
-        ensures { result ≡ not (length (filter (λ value. not (is_among given.now value)) (set.items (at_number self.now key))) == 0) }
+        ensures { result ≡ not (length
+            (filter (λ value. not (is_among given.now value)) (set.items (at_number self.now key)))
+            == 0) }
     {
         match &self.held {
             HeldValues::Few(few) => has_other_pair(few.as_slice(), key, given),
@@ -115,7 +141,8 @@ impl NumberedValues {
     }
 
     pub fn insert(&mut self, alloc: Global, key: usize, value: &Value) -> Result<(), NoMemory>
-        ensures ok { OnOk result (self.new ≡ map.insert self.old key (set.insert (at_number self.old key) value.now)) }
+        ensures ok { OnOk result (self.new
+            ≡ map.insert self.old key (set.insert (at_number self.old key) value.now)) }
         ensures err { OnErr result (self.new ≡ self.old) }
     {
         if self.has(key, value) {
@@ -126,7 +153,8 @@ impl NumberedValues {
 
     /// Removes a value, and the key after its last one. It takes no memory.
     pub fn remove(&mut self, key: usize, value: &Value)
-        ensures { self.new ≡ written self.old key (filled (set.remove (at_number self.old key) value.now)) }
+        ensures { self.new ≡ written self.old key
+            (filled (set.remove (at_number self.old key) value.now)) }
     {
         remove_from(&mut self.held, key, value);
     }
@@ -149,7 +177,8 @@ fn is_pair(pair: &(usize, Value), key: usize, value: &Value) -> bool
 }
 
 fn has_pair(pairs: &[(usize, Value)], key: usize, value: &Value) -> bool
-    ensures { result ≡ list_any (λ pair. nat_eq pair.0 key && is_eq (value_cmp pair.1 value.now)) pairs.now }
+    ensures { result ≡ list_any (λ pair. nat_eq pair.0 key && is_eq (value_cmp pair.1 value.now))
+        pairs.now }
 {
     pairs.iter().any(|pair| is_pair(pair, key, value))
 }
@@ -161,7 +190,8 @@ fn has_key(pairs: &[(usize, Value)], key: usize) -> bool
 }
 
 fn has_other_pair(pairs: &[(usize, Value)], key: usize, given: &List<Value>) -> bool
-    ensures { result ≡ list_any (λ pair. nat_eq pair.0 key && not (is_among given.now pair.1)) pairs.now }
+    ensures { result ≡ list_any (λ pair. nat_eq pair.0 key && not (is_among given.now pair.1))
+        pairs.now }
 {
     pairs
         .iter()
@@ -192,7 +222,8 @@ fn insert_of(
     pair: &(usize, Value),
     key: usize,
 ) -> Result<(), NoMemory>
-    ensures { OnOk result (values.new ≡ cond (nat_eq pair.now.0 key) (set.insert values.old pair.now.1) values.old) }
+    ensures { OnOk result (values.new
+        ≡ cond (nat_eq pair.now.0 key) (set.insert values.old pair.now.1) values.old) }
 {
     if pair.0 == key {
         values.insert(pair.1.copy(alloc)?)?;
@@ -228,9 +259,12 @@ fn insert_new(
     key: usize,
     value: &Value,
 ) -> Result<(), NoMemory>
-    ensures ok { OnOk result (values_of held.new ≡ map.insert (values_of held.old) key (set.insert (at_number (values_of held.old) key) value.now)) }
+    ensures ok { OnOk result (values_of held.new
+        ≡ map.insert (values_of held.old) key
+        (set.insert (at_number (values_of held.old) key) value.now)) }
     ensures err { OnErr result (values_of held.new ≡ values_of held.old) }
-    ensures once { AreHeldOnce held.old → set.contains (at_number (values_of held.old) key) value.now ≡ false → AreHeldOnce held.new }
+    ensures once { AreHeldOnce held.old →
+        set.contains (at_number (values_of held.old) key) value.now ≡ false → AreHeldOnce held.new }
 {
     match held {
         HeldValues::Few(few) => {
@@ -248,7 +282,9 @@ fn insert_new(
 }
 
 fn remove_from(held: &mut HeldValues, key: usize, value: &Value)
-    ensures left { values_of held.new ≡ written (values_of held.old) key (filled (set.remove (at_number (values_of held.old) key) value.now)) }
+    ensures left { values_of held.new
+        ≡ written (values_of held.old) key
+        (filled (set.remove (at_number (values_of held.old) key) value.now)) }
     ensures once { AreHeldOnce held.old → AreHeldOnce held.new }
 {
     match held {

@@ -104,8 +104,10 @@ impl Copied for Numbers {
 
 // Adds a number that isn't there.
 fn insert_new(alloc: Global, held: &mut HeldNumbers, number: usize) -> Result<(), NoMemory>
-    ensures ok { OnOk result (numbers_in (numbers_of held.new) ≡ set.insert (numbers_in (numbers_of held.old)) number) }
-    ensures err { OnErr result (numbers_in (numbers_of held.new) ≡ numbers_in (numbers_of held.old)) }
+    ensures ok { OnOk result (numbers_in (numbers_of held.new)
+        ≡ set.insert (numbers_in (numbers_of held.old)) number) }
+    ensures err { OnErr result (numbers_in (numbers_of held.new)
+        ≡ numbers_in (numbers_of held.old)) }
 {
     match held {
         HeldNumbers::Few(few) => {

@@ -1,11 +1,38 @@
 // The vertices, or the edges, by their ids.
-ghost use Rattle.std.specs.Prelude.{◌≡◌, ◌==◌, ◌≤◌, cond, true, nat_eq, not, min, is_some, slice_get, None, IfSome, IfNone, IfOk, OnOk, OnErr};
+ghost use Rattle.std.specs.Prelude.{
+  ◌≡◌,
+  ◌==◌,
+  ◌≤◌,
+  cond,
+  true,
+  nat_eq,
+  not,
+  min,
+  is_some,
+  slice_get,
+  None,
+  IfSome,
+  IfNone,
+  IfOk,
+  OnOk,
+  OnErr,
+};
 ghost use Rattle.std.specs.Cmp.Lexicographic.{pointwise};
 ghost use Rattle.std.specs.Map.{values_of};
 ghost use Rattle.bl_outside.specs.OrderedSet as set;
 ghost use Rattle.indexmap.specs.IndexMap.{insert_entry};
 ghost use Rattle.bl_graph.specs.Numbered.{values_count};
-ghost use Rattle.bl_graph.specs.Owners.{AreSame, IsPlace, IsSet, bare, found, with_ends, with_label, with_value, without_value};
+ghost use Rattle.bl_graph.specs.Owners.{
+  AreSame,
+  IsPlace,
+  IsSet,
+  bare,
+  found,
+  with_ends,
+  with_label,
+  with_value,
+  without_value,
+};
 ghost use Rattle.bl_graph.specs.Sizes.{total};
 
 use crate::{Copied, NumberedValues, Numbers, Seeded};
@@ -90,8 +117,11 @@ pub fn insert_value<X: Drop>(
     key: usize,
     value: &Value,
 ) -> Result<(), NoMemory>
-    ensures ok { OnOk result (IfSome (slice_get owners.old.entries place) (λ owner. IsSet owners.old.entries owners.new.entries owner.0 (with_value owner.1 key value.now))) }
-    ensures err { OnErr result (IfSome (slice_get owners.old.entries place) (λ owner. IsSet owners.old.entries owners.new.entries owner.0 owner.1)) }
+    ensures ok { OnOk result (IfSome (slice_get owners.old.entries place)
+        (λ owner. IsSet owners.old.entries owners.new.entries owner.0
+        (with_value owner.1 key value.now))) }
+    ensures err { OnErr result (IfSome (slice_get owners.old.entries place)
+        (λ owner. IsSet owners.old.entries owners.new.entries owner.0 owner.1)) }
 {
     match owners.get_index_mut(place) {
         Some(owner) => owner.values.insert(alloc, key, value),
@@ -101,7 +131,9 @@ pub fn insert_value<X: Drop>(
 
 /// Removes a value at a key. It takes no memory.
 pub fn remove_value<X: Drop>(owners: &mut Owners<X>, place: usize, key: usize, value: &Value)
-    ensures { IfSome (slice_get owners.old.entries place) (λ owner. IsSet owners.old.entries owners.new.entries owner.0 (without_value owner.1 key value.now)) }
+    ensures { IfSome (slice_get owners.old.entries place)
+        (λ owner. IsSet owners.old.entries owners.new.entries owner.0
+        (without_value owner.1 key value.now)) }
 {
     if let Some(owner) = owners.get_index_mut(place) {
         owner.values.remove(key, value);
@@ -115,8 +147,11 @@ pub fn insert_label(
     place: usize,
     label: usize,
 ) -> Result<(), NoMemory>
-    ensures ok { OnOk result (IfSome (slice_get vertices.old.entries place) (λ owner. IsSet vertices.old.entries vertices.new.entries owner.0 (with_label owner.1 label))) }
-    ensures err { OnErr result (IfSome (slice_get vertices.old.entries place) (λ owner. IsSet vertices.old.entries vertices.new.entries owner.0 owner.1)) }
+    ensures ok { OnOk result (IfSome (slice_get vertices.old.entries place)
+        (λ owner. IsSet vertices.old.entries vertices.new.entries owner.0
+        (with_label owner.1 label))) }
+    ensures err { OnErr result (IfSome (slice_get vertices.old.entries place)
+        (λ owner. IsSet vertices.old.entries vertices.new.entries owner.0 owner.1)) }
 {
     match vertices.get_index_mut(place) {
         Some(vertex) => vertex.own.insert(alloc, label),
@@ -126,7 +161,8 @@ pub fn insert_label(
 
 /// Gives an edge its label and its ends.
 pub fn set_ends(edges: &mut Owners<Option<Ends>>, place: usize, ends: Ends)
-    ensures { IfSome (slice_get edges.old.entries place) (λ owner. IsSet edges.old.entries edges.new.entries owner.0 (with_ends owner.1 ends)) }
+    ensures { IfSome (slice_get edges.old.entries place)
+        (λ owner. IsSet edges.old.entries edges.new.entries owner.0 (with_ends owner.1 ends)) }
 {
     if let Some(edge) = edges.get_index_mut(place) {
         edge.own = Some(ends);
@@ -154,7 +190,8 @@ fn insert_copy<X: Copied>(
     id: &Text,
     owner: &Owner<X>,
 ) -> Result<(), NoMemory>
-    ensures { OnOk result (copy.new.entries ≡ insert_entry (pointwise nat_eq) copy.old.entries id.now owner.now) }
+    ensures { OnOk result (copy.new.entries
+        ≡ insert_entry (pointwise nat_eq) copy.old.entries id.now owner.now) }
 {
     let it = Owner {
         own: owner.own.copied(alloc)?,
@@ -166,7 +203,8 @@ fn insert_copy<X: Copied>(
 
 /// How many values there are. A count past the largest number is that.
 pub fn count_values<X: Drop>(owners: &Owners<X>) -> u64
-    ensures { result ≡ min (total (λ owner. values_count owner.values) (values_of owners.now.entries)) u64.MAX }
+    ensures { result ≡ min (total (λ owner. values_count owner.values)
+        (values_of owners.now.entries)) u64.MAX }
 {
     let mut count: u64 = 0;
     for owner in owners.values() {
@@ -177,7 +215,8 @@ pub fn count_values<X: Drop>(owners: &Owners<X>) -> u64
 
 /// How many vertices have a label.
 pub fn count_vertices(vertices: &Owners<Numbers>) -> u64
-    ensures { result ≡ total (λ owner. cond (not (set.len owner.own == 0)) 1 0) (values_of vertices.now.entries) }
+    ensures { result ≡ total (λ owner. cond (not (set.len owner.own == 0)) 1 0)
+        (values_of vertices.now.entries) }
 {
     let mut count: u64 = 0;
     for vertex in vertices.values() {

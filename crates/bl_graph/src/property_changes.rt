@@ -3,7 +3,14 @@ ghost use Rattle.std.specs.Prelude.{◌≡◌, ◌++◌, ◌∷◌, [], map, fil
 ghost use Rattle.std.specs.List.{flat_map};
 ghost use Rattle.std.specs.Option.{option_copied};
 ghost use Rattle.bl_outside.specs.OrderedSet as set;
-ghost use Rattle.bl_graph.specs.Admission.{added, conflict, conflicts, is_among, property_changes, replaced};
+ghost use Rattle.bl_graph.specs.Admission.{
+  added,
+  conflict,
+  conflicts,
+  is_among,
+  property_changes,
+  replaced,
+};
 ghost use Rattle.bl_graph.specs.Graph.{keys_in, properties as properties_of, values_at};
 
 use crate::{FoundKey, FoundValues, Graph, ValueSet, is_among};
@@ -21,7 +28,8 @@ impl Graph {
         properties: &'a List<Property>,
     ) -> Option<&'a Property>
         requires { found.now ≡ keys_in (properties_of self.now side) id.now }
-        ensures { option_copied result ≡ conflict self.now update_single side id.now properties.now }
+        ensures { option_copied result
+            ≡ conflict self.now update_single side id.now properties.now }
     {
         if update_single {
             return None;
@@ -50,7 +58,8 @@ impl Graph {
         changes: &mut List<Change>,
     ) -> Result<(), NoMemory>
         requires { found.now ≡ keys_in (properties_of self.now side) id.now }
-        ensures { OnOk result (changes.new ≡ changes.old ++ flat_map (property_changes self.now side id.now) properties.now) }
+        ensures { OnOk result (changes.new ≡ changes.old
+            ++ flat_map (property_changes self.now side id.now) properties.now) }
     {
         for property in properties.as_slice() {
             self.push_property(side, id, &found.at(&property.key), property, changes)?;
@@ -67,7 +76,8 @@ impl Graph {
         changes: &mut List<Change>,
     ) -> Result<(), NoMemory>
         requires { there.now ≡ values_at self.now side id.now property.now.key }
-        ensures { OnOk result (changes.new ≡ changes.old ++ property_changes self.now side id.now property.now) }
+        ensures { OnOk result (changes.new ≡ changes.old
+            ++ property_changes self.now side id.now property.now) }
     {
         self.push_replaced(side, id, there, property, changes)?;
         self.push_added(side, id, there, property, changes)
@@ -82,7 +92,9 @@ impl Graph {
         changes: &mut List<Change>,
     ) -> Result<(), NoMemory>
         requires { there.now ≡ values_at self.now side id.now property.now.key }
-        ensures { OnOk result (changes.new ≡ changes.old ++ map (λ value. Change.RemoveValue side id.now property.now.key value) (replaced self.now side id.now property.now)) }
+        ensures { OnOk result (changes.new ≡ changes.old
+            ++ map (λ value. Change.RemoveValue side id.now property.now.key value)
+            (replaced self.now side id.now property.now)) }
     {
         if !self.conflicts(side, id, there, property) {
             return Ok(());
@@ -100,7 +112,9 @@ impl Graph {
         there: &ValueSet,
         changes: &mut List<Change>,
     ) -> Result<(), NoMemory>
-        ensures { OnOk result (changes.new ≡ changes.old ++ map (λ value. Change.RemoveValue side id.now property.now.key value) (filter (λ value. not (is_among property.now.values value)) (set.items there.now))) }
+        ensures { OnOk result (changes.new ≡ changes.old
+            ++ map (λ value. Change.RemoveValue side id.now property.now.key value)
+            (filter (λ value. not (is_among property.now.values value)) (set.items there.now))) }
     {
         for value in there.iter() {
             self.push_other(side, id, property, value, changes)?;
@@ -116,7 +130,9 @@ impl Graph {
         value: &Value,
         changes: &mut List<Change>,
     ) -> Result<(), NoMemory>
-        ensures { OnOk result (changes.new ≡ changes.old ++ map (λ value. Change.RemoveValue side id.now property.now.key value) (filter (λ value. not (is_among property.now.values value)) (value.now ∷ []))) }
+        ensures { OnOk result (changes.new ≡ changes.old
+            ++ map (λ value. Change.RemoveValue side id.now property.now.key value)
+            (filter (λ value. not (is_among property.now.values value)) (value.now ∷ []))) }
     {
         if is_among(&property.values, value) {
             return Ok(());
@@ -138,7 +154,9 @@ impl Graph {
         changes: &mut List<Change>,
     ) -> Result<(), NoMemory>
         requires { there.now ≡ values_at self.now side id.now property.now.key }
-        ensures { OnOk result (changes.new ≡ changes.old ++ map (λ value. Change.AddValue side id.now property.now.key value) (added self.now side id.now property.now)) }
+        ensures { OnOk result (changes.new ≡ changes.old
+            ++ map (λ value. Change.AddValue side id.now property.now.key value)
+            (added self.now side id.now property.now)) }
     {
         for value in property.values.as_slice() {
             self.push_value(side, id, there, &property.key, value, changes)?;
@@ -156,7 +174,10 @@ impl Graph {
         changes: &mut List<Change>,
     ) -> Result<(), NoMemory>
         requires { there.now ≡ values_at self.now side id.now key.now }
-        ensures { OnOk result (changes.new ≡ changes.old ++ map (λ value. Change.AddValue side id.now key.now value) (filter (λ value. not (set.contains (values_at self.now side id.now key.now) value)) (value.now ∷ []))) }
+        ensures { OnOk result (changes.new ≡ changes.old
+            ++ map (λ value. Change.AddValue side id.now key.now value)
+            (filter (λ value. not (set.contains (values_at self.now side id.now key.now) value))
+            (value.now ∷ []))) }
     {
         if there.contains(value) {
             return Ok(());

@@ -1,5 +1,19 @@
 // What a graph holds.
-ghost use Rattle.std.specs.Prelude.{◌≡◌, ◌==◌, ◌+◌, [], cond, nat_eq, not, min, is_some, position, slice_get, Some, IfOk};
+ghost use Rattle.std.specs.Prelude.{
+  ◌≡◌,
+  ◌==◌,
+  ◌+◌,
+  [],
+  cond,
+  nat_eq,
+  not,
+  min,
+  is_some,
+  position,
+  slice_get,
+  Some,
+  IfOk,
+};
 ghost use Rattle.std.specs.Cmp.Lexicographic.{pointwise};
 ghost use Rattle.std.specs.FinMap as map;
 ghost use Rattle.std.specs.List.{IsDistinct};
@@ -62,9 +76,12 @@ impl Tables {
 
     /// What stands at a vertex.
     pub fn vertex(&self, id: &Text) -> FoundVertex<'_>
-        ensures known { result.is_known ≡ not (set.len (owner_at no_vertex self.now.vertices.entries id.now).own == 0) }
-        ensures labels { result.labels ≡ named self.now.names (owner_at no_vertex self.now.vertices.entries id.now).own }
-        ensures values { result.values ≡ named self.now.names (owner_at no_vertex self.now.vertices.entries id.now).values }
+        ensures known { result.is_known
+            ≡ not (set.len (owner_at no_vertex self.now.vertices.entries id.now).own == 0) }
+        ensures labels { result.labels
+            ≡ named self.now.names (owner_at no_vertex self.now.vertices.entries id.now).own }
+        ensures values { result.values
+            ≡ named self.now.names (owner_at no_vertex self.now.vertices.entries id.now).values }
     {
         match self.vertices.get(id) {
             Some(vertex) => FoundVertex {
@@ -82,8 +99,11 @@ impl Tables {
 
     /// What stands at an edge.
     pub fn edge(&self, id: &Text) -> FoundEdge<'_>
-        ensures ends { ends_found result ≡ ends_said self.now.names (keys_of self.now.vertices.entries) (owner_at no_edge self.now.edges.entries id.now) }
-        ensures values { result.values ≡ named self.now.names (owner_at no_edge self.now.edges.entries id.now).values }
+        ensures ends { ends_found result
+            ≡ ends_said self.now.names (keys_of self.now.vertices.entries)
+            (owner_at no_edge self.now.edges.entries id.now) }
+        ensures values { result.values
+            ≡ named self.now.names (owner_at no_edge self.now.edges.entries id.now).values }
     {
         match self.edges.get(id) {
             Some(edge) => FoundEdge {
@@ -98,7 +118,8 @@ impl Tables {
     }
 
     fn labels<'a>(&'a self, numbers: Option<&'a Numbers>) -> FoundLabels<'a>
-        ensures { result ≡ named self.now.names (unwrap_or (option_copied numbers.entry) map.empty) }
+        ensures { result ≡ named self.now.names
+            (unwrap_or (option_copied numbers.entry) map.empty) }
     {
         FoundLabels {
             names: &self.names,
@@ -117,7 +138,8 @@ impl Tables {
 
     // The texts of an edge's numbers.
     fn texts_of(&self, ends: Option<Ends>) -> Option<FoundEnds<'_>>
-        ensures { option_map ends_in result ≡ ends_of self.now.names (keys_of self.now.vertices.entries) ends }
+        ensures { option_map ends_in result
+            ≡ ends_of self.now.names (keys_of self.now.vertices.entries) ends }
     {
         let ends = ends?;
         let label = self.names.text(ends.label as usize)?;
@@ -137,9 +159,13 @@ impl Tables {
 
     /// How many vertices, edges and values there are.
     pub fn sizes(&self) -> (u64, u64, u64)
-        ensures vertices { result.0 ≡ total (λ owner. cond (not (set.len owner.own == 0)) 1 0) (values_of self.now.vertices.entries) }
-        ensures edges { result.1 ≡ total (λ owner. cond (is_some owner.own) 1 0) (values_of self.now.edges.entries) }
-        ensures values { result.2 ≡ min (total (λ owner. values_count owner.values) (values_of self.now.vertices.entries) + total (λ owner. values_count owner.values) (values_of self.now.edges.entries)) u64.MAX }
+        ensures vertices { result.0 ≡ total (λ owner. cond (not (set.len owner.own == 0)) 1 0)
+            (values_of self.now.vertices.entries) }
+        ensures edges { result.1 ≡ total (λ owner. cond (is_some owner.own) 1 0)
+            (values_of self.now.edges.entries) }
+        ensures values { result.2 ≡ min
+            (total (λ owner. values_count owner.values) (values_of self.now.vertices.entries) +
+            total (λ owner. values_count owner.values) (values_of self.now.edges.entries)) u64.MAX }
         ensures ids { IsDistinct (pointwise nat_eq) (keys_of self.now.vertices.entries) }
         ensures other_ids { IsDistinct (pointwise nat_eq) (keys_of self.now.edges.entries) }
     {
@@ -161,7 +187,8 @@ impl Tables {
         guess: usize,
     ) -> Result<(usize, usize), NoMemory>
         ensures place { IfOk result (λ found. IsPlace self.new.vertices.entries id.now found.0) }
-        ensures number { IfOk result (λ found. position (pointwise nat_eq name.now) self.new.names ≡ Some found.1) }
+        ensures number { IfOk result (λ found.
+            position (pointwise nat_eq name.now) self.new.names ≡ Some found.1) }
         ensures grown { IsGrown self.old self.new }
     {
         let number = self.names.add(name)?;
@@ -178,7 +205,8 @@ impl Tables {
         guess: usize,
     ) -> Result<(usize, usize), NoMemory>
         ensures place { IfOk result (λ found. IsPlace self.new.edges.entries id.now found.0) }
-        ensures number { IfOk result (λ found. position (pointwise nat_eq name.now) self.new.names ≡ Some found.1) }
+        ensures number { IfOk result (λ found.
+            position (pointwise nat_eq name.now) self.new.names ≡ Some found.1) }
         ensures grown { IsGrown self.old self.new }
     {
         let number = self.names.add(name)?;
@@ -189,8 +217,10 @@ impl Tables {
     /// The numbers of a label and of two ends.
     pub fn ends_of(&mut self, label: &Text, from: &Text, to: &Text) -> Result<Ends, NoMemory>
         ensures label { IfOk result (λ ends. slice_get self.new.names ends.label ≡ Some label.now) }
-        ensures from { IfOk result (λ ends. slice_get (keys_of self.new.vertices.entries) ends.from ≡ Some from.now) }
-        ensures to { IfOk result (λ ends. slice_get (keys_of self.new.vertices.entries) ends.to ≡ Some to.now) }
+        ensures from { IfOk result (λ ends.
+            slice_get (keys_of self.new.vertices.entries) ends.from ≡ Some from.now) }
+        ensures to { IfOk result (λ ends.
+            slice_get (keys_of self.new.vertices.entries) ends.to ≡ Some to.now) }
         ensures grown { IsGrown self.old self.new }
     {
         let (from, label) = self.vertex_named(from, label, 0)?;

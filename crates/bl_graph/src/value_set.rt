@@ -90,7 +90,8 @@ impl ValueSet {
 
     /// Whether a value other than the given ones is there.
     pub fn has_other(&self, given: &List<Value>) -> bool
-        ensures { result ≡ not (length (filter (λ value. not (is_among given.now value)) (set.items self.now)) == 0) }
+        ensures { result ≡ not (length
+            (filter (λ value. not (is_among given.now value)) (set.items self.now)) == 0) }
     {
         for value in self.iter() {
             if !is_among(given, value) {

@@ -79,9 +79,12 @@ has_fault side left field bad_name = is_bad_name field
 has_fault side left field unknown_system = is_unknown_system field
 has_fault side left field unknown_type = is_unknown_type field
 has_fault side left field float_column = has_type (λ type. is_float type.name) field
-has_fault side left field single_array = has_type (λ type. is_said_single type.cardinality && type.many) field
-has_fault side left field edge_not_single = is_on_edge side && has_type (λ type. is_said_set type.cardinality || type.many) field
-has_fault side left field repeated = list_any (λ other. is_same_column (without_spaces other) field) left
+has_fault side left field single_array =
+    has_type (λ type. is_said_single type.cardinality && type.many) field
+has_fault side left field edge_not_single =
+    is_on_edge side && has_type (λ type. is_said_set type.cardinality || type.many) field
+has_fault side left field repeated =
+    list_any (λ other. is_same_column (without_spaces other) field) left
 
 -- the order of faults in one column
 abbrev pub place_of : Fault → ℕ
@@ -97,16 +100,19 @@ place_of repeated = 6
 pub record Holds (fields : List (List ℕ)) (column : ℕ) (fault : Fault) : Type 0 where
   pub counted : 1 ≤ column
   pub within : column ≤ length fields
-  pub has : has_fault (side_of fields) (take (column - 1) fields) (without_spaces (slice_index_or fields (column - 1) [])) fault ≡ true
+  pub has : has_fault (side_of fields) (take (column - 1) fields)
+      (without_spaces (slice_index_or fields (column - 1) [])) fault ≡ true
 
 -- one fault of a file comes before another: by column, then by the order in one column
 abbrev pub Precedes : ℕ → Fault → ℕ → Fault → Type 0
-Precedes column fault other other_fault = (column < other) ⊎ ((column ≡ other) × (place_of fault < place_of other_fault))
+Precedes column fault other other_fault =
+    (column < other) ⊎ ((column ≡ other) × (place_of fault < place_of other_fault))
 
 -- the least of all faults
 pub record IsFirstFault (fields : List (List ℕ)) (column : ℕ) (fault : Fault) : Type 0 where
   pub holds : Holds fields column fault
-  pub first : (other : ℕ) (other_fault : Fault) → Precedes other other_fault column fault → ¬ (Holds fields other other_fault)
+  pub first : (other : ℕ) (other_fault : Fault) → Precedes other other_fault column fault →
+      ¬ (Holds fields other other_fault)
 
 -- no column has a fault
 abbrev pub HasNoFault : List (List ℕ) → Type 0

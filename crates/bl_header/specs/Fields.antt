@@ -1,5 +1,6 @@
 -- What a field of a header says (Neptune User Guide, "Gremlin load data format"): `~id`, `~label`,
--- `~from`, `~to`, or a property's name, optionally a colon and a type text. The fields here have lost
+-- `~from`, `~to`, or a property's name, optionally a colon and a type text. The fields here have
+-- lost
 -- the ASCII spaces at both ends.
 use Rattle.std.specs.Prelude.{◌≡◌, ℕ, ◌==◌, nat_le, Bool, true, false, not, ◌&&◌, if◌then◌else◌, codes, List, [], ◌∷◌, drop, length, None, Some}
 use Rattle.std.specs.declared.option.Option.{Option}
@@ -35,7 +36,8 @@ system_column field =
 -- `barred` says whether a backslash stands right before the text.
 abbrev pub before_colon : Bool → List ℕ → List ℕ
 before_colon barred [] = []
-before_colon barred (byte ∷ rest) = if byte == 58 && not barred then [] else byte ∷ before_colon (byte == 92) rest
+before_colon barred (byte ∷ rest) =
+    if byte == 58 && not barred then [] else byte ∷ before_colon (byte == 92) rest
 
 abbrev pub name_part : List ℕ → List ℕ
 name_part field = before_colon false field
@@ -55,7 +57,8 @@ begins_with_colon (byte ∷ rest) = byte == 58
 -- without the backslashes that stand right before a colon
 abbrev pub unescaped : List ℕ → List ℕ
 unescaped [] = []
-unescaped (byte ∷ rest) = if byte == 92 && begins_with_colon rest then unescaped rest else byte ∷ unescaped rest
+unescaped (byte ∷ rest) = if byte == 92 && begins_with_colon rest then unescaped rest else byte
+    ∷ unescaped rest
 
 -- the name of a property
 abbrev pub name_of : List ℕ → List ℕ
@@ -86,7 +89,12 @@ is_single Edge None = true
 
 abbrev pub kept_column : Side → List ℕ → Option Cardinality → Bool → TypeName → Option ColumnUse
 kept_column side name cardinality many (Kept kind) =
-    Some (Property (record { name = name; kind = kind; single = is_single side cardinality; many = many }))
+    Some (Property (record {
+      name = name;
+      kind = kind;
+      single = is_single side cardinality;
+      many = many;
+    }))
 kept_column side name cardinality many Float = None
 
 abbrev pub property_column : Side → List ℕ → TypeText → Option ColumnUse
@@ -96,7 +104,8 @@ property_column side name type = kept_column side name type.cardinality type.man
 abbrev pub column_use : Side → List ℕ → Option ColumnUse
 column_use side field =
     if is_system field then system_column field
-    else (if is_name (name_of field) then option_and_then (property_column side (name_of field)) (type_of field) else None)
+    else (if is_name (name_of field)
+    then option_and_then (property_column side (name_of field)) (type_of field) else None)
 
 -- what a column is called by its field, if that says it
 abbrev pub column_name : List ℕ → Option ColumnName
@@ -119,8 +128,10 @@ escaped (byte ∷ rest) = if byte == 58 then 92 ∷ (58 ∷ escaped rest) else b
 
 -- the column of texts with this name, of a field without a type text
 abbrev pub plain_column : Side → List ℕ → ColumnUse
-plain_column side name = Property (record { name = name; kind = Str; single = is_single side None; many = false })
+plain_column side name = Property
+    (record { name = name; kind = Str; single = is_single side None; many = false })
 
 -- A name whose colons are escaped is read back as a column of texts.
 abbrev pub NamesAreReadBack : Type 0
-NamesAreReadBack = (side : Side) (name : List ℕ) → is_name name ≡ true → is_system name ≡ false → column_use side (escaped name) ≡ Some (plain_column side name)
+NamesAreReadBack = (side : Side) (name : List ℕ) → is_name name ≡ true → is_system name ≡ false →
+    column_use side (escaped name) ≡ Some (plain_column side name)

@@ -46,7 +46,8 @@ abbrev pub type_fault : Side → TypeText → Option Fault
 type_fault side type =
     if is_float type.name then Some float_column
     else (if is_said_single type.cardinality && type.many then Some single_array
-    else (if is_on_edge side && (is_said_set type.cardinality || type.many) then Some edge_not_single
+    else (if is_on_edge side && (is_said_set type.cardinality || type.many)
+    then Some edge_not_single
     else None))
 
 -- the refusal is that of the column with this fault
@@ -70,4 +71,5 @@ IsCleanBefore side fields place = (other : ℕ) → other < place → fault_at s
 -- a refusal of the column at some place, where no column further left has a fault
 abbrev pub IsLeftmost : Side → List (List ℕ) → HeaderRefusal → Type 0
 IsLeftmost side fields refusal =
-    (place : ℕ) × (place < length fields) × IsCleanBefore side fields place × Gives (fault_at side fields place) (place + 1) refusal
+    (place : ℕ) × (place < length fields) × IsCleanBefore side fields place
+    × Gives (fault_at side fields place) (place + 1) refusal

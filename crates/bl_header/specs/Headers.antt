@@ -22,7 +22,8 @@ pub record IsMeaning (fields : List (List ℕ)) (columns : Columns) : Type 0 whe
   pub id : has_field (codes "~id") fields ≡ true
   pub ends : has_field (codes "~from") fields ≡ has_field (codes "~to") fields
   pub side : columns.side ≡ side_of fields
-  pub uses : map Some columns.uses ≡ map (λ field. column_use (side_of fields) (without_spaces field)) fields
+  pub uses : map Some columns.uses
+      ≡ map (λ field. column_use (side_of fields) (without_spaces field)) fields
 
 -- the header is accepted but for its `~id`
 pub record HasNoId (fields : List (List ℕ)) : Type 0 where

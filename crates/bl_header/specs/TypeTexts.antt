@@ -1,4 +1,5 @@
--- What a type text says (Neptune User Guide, "Gremlin load data format"): a type name, then optionally
+-- What a type text says (Neptune User Guide, "Gremlin load data format"): a type name, then
+-- optionally
 -- `(single)` or `(set)`, then optionally `[]`, in any letter case.
 use Rattle.std.specs.Prelude.{◌≡◌, ◌↔◌, ℕ, ◌-◌, Bool, true, false, if◌then◌else◌, nat_eq, codes, List, [], ◌∷◌, ◌++◌, map, take, drop, length, None, Some}
 use Rattle.std.specs.declared.option.Option.{Option}
@@ -17,9 +18,12 @@ use Rattle.bl_header.specs.declared.type_text.TypeText.{TypeText}
 -- the type names in lower case
 abbrev pub type_names : List (List ℕ × TypeName)
 type_names =
-    (codes "bool", Kept types.Bool) ∷ ((codes "boolean", Kept types.Bool) ∷ ((codes "byte", Kept types.Byte) ∷
-    ((codes "short", Kept types.Short) ∷ ((codes "int", Kept types.Int) ∷ ((codes "long", Kept types.Long) ∷
-    ((codes "float", Float) ∷ ((codes "double", Float) ∷ ((codes "string", Kept types.Str) ∷ ((codes "date", Kept types.Date) ∷ [])))))))))
+    (codes "bool", Kept types.Bool)
+    ∷ ((codes "boolean", Kept types.Bool) ∷ ((codes "byte", Kept types.Byte) ∷
+    ((codes "short", Kept types.Short)
+    ∷ ((codes "int", Kept types.Int) ∷ ((codes "long", Kept types.Long) ∷
+    ((codes "float", Float) ∷ ((codes "double", Float)
+    ∷ ((codes "string", Kept types.Str) ∷ ((codes "date", Kept types.Date) ∷ [])))))))))
 
 abbrev pub cardinality_text : Option Cardinality → List ℕ
 cardinality_text None = []
@@ -45,11 +49,13 @@ type_name text = lookup (pointwise nat_eq text) type_names
 -- what stands before this ending, where the text ends so
 abbrev pub before_ending : List ℕ → List ℕ → Option (List ℕ)
 before_ending ending text =
-    if pointwise nat_eq (drop (length text - length ending) text) ending then Some (take (length text - length ending) text) else None
+    if pointwise nat_eq (drop (length text - length ending) text) ending
+    then Some (take (length text - length ending) text) else None
 
 -- a type name, behind which these endings stood
 abbrev pub named : List ℕ → Option Cardinality → Bool → Option TypeText
-named text cardinality many = option_map (λ name. record { name = name; cardinality = cardinality; many = many }) (type_name text)
+named text cardinality many = option_map
+    (λ name. record { name = name; cardinality = cardinality; many = many }) (type_name text)
 
 abbrev pub without_set : Option (List ℕ) → List ℕ → Bool → Option TypeText
 without_set (Some front) text many = named front (Some Set) many
@@ -76,4 +82,5 @@ type_text text = lower_type_text (map to_ascii_lowercase text)
 
 -- a text says a type exactly where it spells it, in whatever letter case
 abbrev pub AreReadAsSpelled : Type 0
-AreReadAsSpelled = (text : List ℕ) (type : TypeText) → (type_text text ≡ Some type) ↔ IsSpelling (map to_ascii_lowercase text) type
+AreReadAsSpelled = (text : List ℕ) (type : TypeText) →
+    (type_text text ≡ Some type) ↔ IsSpelling (map to_ascii_lowercase text) type

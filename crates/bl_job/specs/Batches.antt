@@ -30,25 +30,48 @@ row_log number code column = record { code = code; number = number; column = col
 
 -- A refused row is counted and logged, or it stops the batch and isn't counted.
 abbrev pub with_refusal : Bool → BatchResult → LogCode → ℕ → BatchResult
-with_refusal true made code column = record made { stop = Some (row_log (made.rows + 1) code column) }
-with_refusal false made code column = record made { rows = made.rows + 1; logs = made.logs ++ row_log (made.rows + 1) code column ∷ [] }
+with_refusal true made code column =
+    record made { stop = Some (row_log (made.rows + 1) code column) }
+with_refusal false made code column =
+    record made {
+      rows = made.rows + 1;
+      logs = made.logs ++ row_log (made.rows + 1) code column ∷ [];
+    }
 
 -- what the verdict on the next row adds
 abbrev pub with_verdict : Bool → Taken → Verdict → Taken
 with_verdict fail_on_error taken (Changes changes) =
-    record { graph = after taken.graph changes; result = record taken.result { rows = taken.result.rows + 1; changes = taken.result.changes ++ changes } }
+    record {
+      graph = after taken.graph changes;
+      result =
+          record taken.result {
+            rows = taken.result.rows + 1;
+            changes = taken.result.changes ++ changes;
+          };
+    }
 with_verdict fail_on_error taken Duplicate =
-    record { graph = taken.graph; result = record taken.result { rows = taken.result.rows + 1; duplicates = taken.result.duplicates + 1 } }
-with_verdict fail_on_error taken (Refused code column) = record { graph = taken.graph; result = with_refusal fail_on_error taken.result code column }
+    record {
+      graph = taken.graph;
+      result =
+          record taken.result {
+            rows = taken.result.rows + 1;
+            duplicates = taken.result.duplicates + 1;
+          };
+    }
+with_verdict fail_on_error taken (Refused code column) =
+    record { graph = taken.graph; result = with_refusal fail_on_error taken.result code column }
 
 -- the next row, admitted into the graph so far
 abbrev pub with_row : LoadRequest → Taken → Row → Taken
-with_row request taken row = with_verdict request.fail_on_error taken (admit taken.graph request.update_single row)
+with_row request taken row = with_verdict request.fail_on_error taken
+    (admit taken.graph request.update_single row)
 
 -- the rows, one after another; behind the one that stops nothing is taken
 abbrev pub take_rows : LoadRequest → Taken → List DigestRow → Taken
 take_rows request taken [] = taken
-take_rows request taken (row ∷ rows) = if is_some taken.result.stop then taken else take_rows request (with_row request taken row.row) rows
+take_rows request taken (row ∷ rows) =
+    if is_some taken.result.stop then taken
+    else take_rows request (with_row request taken row.row) rows
 
 abbrev pub batch : LoadRequest → Graph → List DigestRow → Taken
 batch request graph rows = take_rows request (so_far graph nothing_yet) rows

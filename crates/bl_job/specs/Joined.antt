@@ -24,8 +24,12 @@ joined first second = record {
 
 -- the second batch starts from the graph of the first
 abbrev pub one_then_other : LoadRequest → Taken → List DigestRow → Taken
-one_then_other request first more = so_far (batch request first.graph more).graph (joined first.result (batch request first.graph more).result)
+one_then_other request first more =
+    so_far (batch request first.graph more).graph
+    (joined first.result (batch request first.graph more).result)
 
 -- Where the first of two batches isn't stopped, both are one batch of all their rows.
 abbrev pub TwoBatchesAreOne : Type 0
-TwoBatchesAreOne = (request : LoadRequest) (graph : Graph) (rows more : List DigestRow) → (batch request graph rows).result.stop ≡ None → batch request graph (rows ++ more) ≡ one_then_other request (batch request graph rows) more
+TwoBatchesAreOne = (request : LoadRequest) (graph : Graph) (rows more : List DigestRow) →
+    (batch request graph rows).result.stop ≡ None →
+    batch request graph (rows ++ more) ≡ one_then_other request (batch request graph rows) more

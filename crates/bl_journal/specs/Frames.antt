@@ -20,7 +20,8 @@ abbrev pub number : List ℕ → ℕ
 number (a ∷ b ∷ c ∷ d ∷ rest) = from_be_bytes w32 (a ∷ b ∷ c ∷ d ∷ [])
 number rest = 0
 
--- What is met from a gate on: the bodies of the frames, and the place of the gate that is no journal, if there is one.
+-- What is met from a gate on: the bodies of the frames, and the place of the gate that is no
+-- journal, if there is one.
 abbrev pub Found : Type 0
 Found = List (List ℕ) × Option ℕ
 
@@ -39,7 +40,9 @@ abbrev pub frames_from : ℕ → ℕ → List ℕ → Found
 frames_from place skip [] = ([], None)
 frames_from place (suc skip) (byte ∷ rest) = frames_from (place + 1) skip rest
 frames_from place zero (gate ∷ rest) =
-    if gate == 1 then (if is_frame rest (number rest) then prefixed (body_of rest (number rest) ∷ []) (frames_from (place + 1) (4 + number rest) rest) else ([], Some place)) else ([], None)
+    if gate == 1 then (if is_frame rest (number rest)
+    then prefixed (body_of rest (number rest) ∷ [])
+    (frames_from (place + 1) (4 + number rest) rest) else ([], Some place)) else ([], None)
 
 -- the frames from the gate at a place on
 abbrev pub frames_at : ℕ → List ℕ → Found
@@ -49,15 +52,18 @@ frames_at place content = frames_from place 0 (drop place content)
 abbrev pub first_difference : ℕ → List ℕ → List ℕ → Option ℕ
 first_difference place [] bytes = None
 first_difference place (x ∷ expected) [] = Some place
-first_difference place (x ∷ expected) (b ∷ bytes) = if x == b then first_difference (place + 1) expected bytes else Some place
+first_difference place (x ∷ expected) (b ∷ bytes) =
+    if x == b then first_difference (place + 1) expected bytes else Some place
 
 abbrev pub frames_behind_head : Option ℕ → List ℕ → Found
 frames_behind_head (Some place) image = ([], Some place)
 frames_behind_head None image = frames_at 15 image
 
--- The frames of a file. One of at most 16 bytes has none, whatever its bytes are: it isn't finished, or nothing was added.
+-- The frames of a file. One of at most 16 bytes has none, whatever its bytes are: it isn't
+-- finished, or nothing was added.
 abbrev pub frames : List ℕ → Found
-frames image = if nat_le (length image) 16 then ([], None) else frames_behind_head (first_difference 0 head image) image
+frames image = if nat_le (length image) 16 then ([], None)
+    else frames_behind_head (first_difference 0 head image) image
 
 -- an image with just these frames
 abbrev pub HasFrames : List ℕ → List (List ℕ) → Type 0

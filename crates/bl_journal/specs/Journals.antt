@@ -15,30 +15,36 @@ pub record JournalRecord (D : Type 0) : Type 0 where
   pub place : ℕ
 
 abbrev pub journal_code : {D : Type 0} → Coded D → Coded (JournalRecord D)
-journal_code {D} code = code_by (D × ℕ) (coded× code coded_ℕ) (λ j. (j.disk, j.place)) (λ p. record { disk = p.0; place = p.1 }) (λ _. refl)
+journal_code {D} code = code_by (D × ℕ) (coded× code coded_ℕ) (λ j. (j.disk, j.place))
+    (λ p. record { disk = p.0; place = p.1 }) (λ _. refl)
 
 -- The frames up to the gate at a place are these, whatever stands from there on.
 pub record Reaches (content : List ℕ) (place : ℕ) (done : List (List ℕ)) : Type 0 where
   pub begins : 15 ≤ place
   pub inside : place < length content
   pub own : frames content ≡ prefixed done (frames_at place content)
-  pub front : (other : List ℕ) → take place other ≡ take place content → place < length other → 16 < length other → frames other ≡ prefixed done (frames_at place other)
+  pub front : (other : List ℕ) → take place other ≡ take place content → place < length other →
+      16 < length other → frames other ≡ prefixed done (frames_at place other)
 
 -- reads see these frames up to the gate at a place, and these from there on
-pub record Stands (seen : Option (List ℕ)) (place : ℕ) (done : List (List ℕ)) (ahead : Found) : Type 0 where
+pub record Stands (seen : Option (List ℕ)) (place : ℕ) (done : List (List ℕ)) (ahead : Found) : Type
+    0 where
   pub content : List ℕ
   pub told : seen ≡ Some content
   pub reaches : Reaches content place done
   pub rest : ahead ≡ frames_at place content
 
 -- the journal stands at the closed gate behind these frames, and nothing is pending
-pub record Ends {D : Type 0} (of : Ghosts D) (journal : JournalRecord D) (bodies : List (List ℕ)) : Type 0 where
+pub record Ends {D : Type 0} (of : Ghosts D) (journal : JournalRecord D) (bodies : List (List ℕ)) :
+    Type 0 where
   pub settled : IsSettled of journal.disk
   pub stands : Stands (of.seen journal.disk) journal.place bodies ([], None)
 
 -- over a sound disk nothing is pending, and the place is that of a gate
 abbrev pub IsAtGate : {D : Type 0} → Ghosts D → JournalRecord D → Type 0
-IsAtGate of journal = IsSound of journal.disk → IsSettled of journal.disk × (done : List (List ℕ)) × (ahead : Found) × Stands (of.seen journal.disk) journal.place done ahead
+IsAtGate of journal = IsSound of journal.disk →
+    IsSettled of journal.disk × (done : List (List ℕ)) × (ahead : Found)
+    × Stands (of.seen journal.disk) journal.place done ahead
 
 -- over a sound disk it is that of the closed gate behind all frames
 abbrev pub IsAtEnd : {D : Type 0} → Ghosts D → JournalRecord D → Type 0
@@ -77,39 +83,47 @@ disk_after (Ok journal) = journal.disk
 disk_after (Err refusal) = refusal.1
 
 -- why there is no beginning, where there is none
-abbrev pub fault_after : {D : Type 0} → Result (JournalRecord D) (JournalFault × D) → Option JournalFault
+abbrev pub fault_after : {D : Type 0} → Result (JournalRecord D) (JournalFault × D) →
+    Option JournalFault
 fault_after (Ok journal) = None
 fault_after (Err refusal) = Some refusal.0
 
 -- What a beginning finds and makes, over the disk before it and after it. None: it went well.
-pub record Opens {D : Type 0} (of : Ghosts D) (old new : D) (fault : Option JournalFault) : Type 0 where
-  -- Where nothing is written, the frames that lie ahead are known of every disk that tells.
-  pub begins : IfNone fault ((IsSound of old ⊎ IsMade (of.seen old)) → Begins (of.seen old) (of.seen new))
-  pub settled : IfNone fault (of.honest old → IsSettled of new)
-  pub head : IfNone fault (HasHead (of.seen old))
-  -- a file that isn't finished becomes a new one, and all others stay as they are
-  pub created : IfNone fault (IsSound of old → (¬ IsMade (of.seen old)) → of.seen new ≡ Some new_file)
-  pub untouched : IsMade (of.seen old) → of.seen new ≡ of.seen old
-  pub refused : IfSome fault (HeadFault (of.seen old))
-  pub store : fault ≡ Some StoreFault → Rose (of.faults old) (of.faults new)
-  pub any_moment : IsSound of old → Since of old new (AsBefore (of.may_leave old))
-  pub sound : IsSound of old ↔ IsSound of new
-  pub later : of.faults old ≤ of.faults new
+pub record Opens {D : Type 0} (of : Ghosts D) (old new : D) (fault : Option JournalFault) : Type 0
+  where
+    -- Where nothing is written, the frames that lie ahead are known of every disk that tells.
+    pub begins : IfNone fault ((IsSound of old ⊎ IsMade (of.seen old)) →
+        Begins (of.seen old) (of.seen new))
+    pub settled : IfNone fault (of.honest old → IsSettled of new)
+    pub head : IfNone fault (HasHead (of.seen old))
+    -- a file that isn't finished becomes a new one, and all others stay as they are
+    pub created : IfNone fault (IsSound of old → (¬ IsMade (of.seen old)) →
+        of.seen new ≡ Some new_file)
+    pub untouched : IsMade (of.seen old) → of.seen new ≡ of.seen old
+    pub refused : IfSome fault (HeadFault (of.seen old))
+    pub store : fault ≡ Some StoreFault → Rose (of.faults old) (of.faults new)
+    pub any_moment : IsSound of old → Since of old new (AsBefore (of.may_leave old))
+    pub sound : IsSound of old ↔ IsSound of new
+    pub later : of.faults old ≤ of.faults new
 
 -- The first frame from a gate on, whatever stands before it: its body, the end, or no journal.
 abbrev pub FrameIs : Option (List ℕ) → ℕ → Result (Option (List ℕ)) JournalFault → Type 0
 FrameIs None gate result = Unit {0}
-FrameIs (Some content) gate (Ok (Some body)) = frames_at gate content ≡ prefixed (body ∷ []) (frames_at (gate + 5 + length body) content)
+FrameIs (Some content) gate (Ok (Some body)) =
+    frames_at gate content ≡ prefixed (body ∷ []) (frames_at (gate + 5 + length body) content)
 FrameIs (Some content) gate (Ok None) = frames_at gate content ≡ ([], None)
 FrameIs (Some content) gate (Err (NotAJournal fault)) = frames_at gate content ≡ ([], Some fault)
 FrameIs (Some content) gate (Err StoreFault) = Unit {0}
 FrameIs (Some content) gate (Err NoMemory) = Unit {0}
 
 -- what `next` finds where it is known what stands before the place
-abbrev pub NextIs : Option (List ℕ) → ℕ → List (List ℕ) → Found → Result (Option (List ℕ)) JournalFault → Type 0
-NextIs seen new done ahead (Ok (Some body)) = (more : Found) × (ahead ≡ prefixed (body ∷ []) more) × Stands seen new (done ++ body ∷ []) more
+abbrev pub NextIs : Option (List ℕ) → ℕ → List (List ℕ) → Found →
+    Result (Option (List ℕ)) JournalFault → Type 0
+NextIs seen new done ahead (Ok (Some body)) =
+    (more : Found) × (ahead ≡ prefixed (body ∷ []) more) × Stands seen new (done ++ body ∷ []) more
 NextIs seen new done ahead (Ok None) = (ahead ≡ ([], None)) × Stands seen new done ahead
-NextIs seen new done ahead (Err (NotAJournal fault)) = (ahead ≡ ([], Some fault)) × Stands seen new done ahead
+NextIs seen new done ahead (Err (NotAJournal fault)) =
+    (ahead ≡ ([], Some fault)) × Stands seen new done ahead
 NextIs seen new done ahead (Err StoreFault) = Stands seen new done ahead
 NextIs seen new done ahead (Err NoMemory) = Stands seen new done ahead
 
@@ -134,10 +148,14 @@ IsFull place n = (2 ^ 32 ≤ n) ⊎ (journal_limit ≤ place + 5 + n)
 abbrev pub body_at : ℕ → ℕ → List ℕ → List ℕ
 body_at place n content = take n (drop (place + 5) content)
 
--- what stands at a gate of a told content: a frame with a body of this length, the end, or no journal
+-- what stands at a gate of a told content: a frame with a body of this length, the end, or no
+-- journal
 abbrev pub GateIs : Option (List ℕ) → ℕ → Result (Option ℕ) JournalFault → Type 0
 GateIs None place result = Unit {0}
-GateIs (Some content) place (Ok (Some n)) = (length (body_at place n content) ≡ n) × (frames_at place content ≡ prefixed (body_at place n content ∷ []) (frames_at (place + 5 + n) content))
+GateIs (Some content) place (Ok (Some n)) =
+    (length (body_at place n content) ≡ n)
+    × (frames_at place content ≡ prefixed (body_at place n content ∷ [])
+    (frames_at (place + 5 + n) content))
 GateIs (Some content) place (Ok None) = frames_at place content ≡ ([], None)
 GateIs (Some content) place (Err (NotAJournal fault)) = frames_at place content ≡ ([], Some fault)
 GateIs (Some content) place (Err StoreFault) = Unit {0}

@@ -2,7 +2,8 @@
 //!
 //! A [`Journal`] stands over any `Disk`. Its one contract: an append that is cut short at any
 //! moment leaves a file with the entries from before, or with those and the new one, and once it
-//! has answered `Ok` every later crash leaves the new one too. A beginning settles an entry of unknown
+//! has answered `Ok` every later crash leaves the new one too. A beginning settles an entry of
+//! unknown
 //! fate, since it syncs before it reads. No checksum is trusted: a gate byte in front of each frame
 //! is closed on the disk before anything is written behind it, and is opened by a write of its own.
 //!

@@ -36,11 +36,13 @@ new_job moment number id request =
 
 -- of more jobs than are kept the oldest that has ended goes
 abbrev pub trimmed : List Job → List Job
-trimmed jobs = if nat_lt most_kept (length jobs) then remove jobs (position_or_len (λ job. has_ended job.status) jobs) else jobs
+trimmed jobs = if nat_lt most_kept (length jobs)
+    then remove jobs (position_or_len (λ job. has_ended job.status) jobs) else jobs
 
 -- the list is settled, and then trimmed
 abbrev pub IsTrimmed : ℕ → List Job → List Job → Type 0
-IsTrimmed moment before after = (settled : List Job) × IsSettled moment before settled × (after ≡ trimmed settled)
+IsTrimmed moment before after =
+    (settled : List Job) × IsSettled moment before settled × (after ≡ trimmed settled)
 
 -- the new job stands behind all others
 abbrev pub IsSubmitted : ℕ → ℕ → LoadRequest → Kept → Kept → Type 0
@@ -53,7 +55,9 @@ IsSubmitted moment id request old new =
 
 -- the job is changed, which settles the others
 abbrev pub IsChanged : ℕ → ℕ → (Job → Job) → Kept → Kept → Type 0
-IsChanged moment number change old new = (jobs : List Job) × IsSettled moment (with_job number change old.jobs) jobs × (new ≡ record old { jobs = jobs })
+IsChanged moment number change old new =
+    (jobs : List Job) × IsSettled moment (with_job number change old.jobs) jobs
+    × (new ≡ record old { jobs = jobs })
 
 -- it ends
 abbrev pub ended_job : ℕ → JobStatus → Option Log → Job → Job

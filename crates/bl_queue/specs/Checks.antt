@@ -12,7 +12,8 @@ use Rattle.bl_queue.specs.Jobs.{Kept, front_job, waits}
 
 -- there are too many dependencies
 abbrev pub too_many : LoadRequest → Option CheckRefusal
-too_many request = if nat_lt most_dependencies (length request.dependencies) then Some TooManyDependencies else None
+too_many request = if nat_lt most_dependencies (length request.dependencies)
+    then Some TooManyDependencies else None
 
 -- a kept job has this id
 abbrev pub has_id : List Job → ℕ → Bool
@@ -20,7 +21,8 @@ has_id jobs id = list_any (λ job. job.id == id) jobs
 
 -- the place of the first dependency that is no kept job's id, counted from 1
 abbrev pub unknown : List Job → LoadRequest → Option CheckRefusal
-unknown jobs request = option_map (λ place. UnknownDependency (place + 1)) (position (λ id. not (has_id jobs id)) request.dependencies)
+unknown jobs request = option_map (λ place. UnknownDependency (place + 1))
+    (position (λ id. not (has_id jobs id)) request.dependencies)
 
 -- the load may not wait, and a job hasn't ended
 abbrev pub busy : List Job → LoadRequest → Option CheckRefusal
@@ -36,4 +38,6 @@ used_up last = if last == 4294967295 then Some NumbersUsedUp else None
 
 -- the first of these that holds
 abbrev pub refusal : Kept → LoadRequest → Option CheckRefusal
-refusal kept request = option_or (too_many request) (option_or (unknown kept.jobs request) (option_or (busy kept.jobs request) (option_or (full kept.jobs) (used_up kept.last))))
+refusal kept request = option_or (too_many request)
+    (option_or (unknown kept.jobs request)
+    (option_or (busy kept.jobs request) (option_or (full kept.jobs) (used_up kept.last))))

@@ -50,16 +50,19 @@ has_open job = list_any (λ feed. is_open feed.status) job.feeds
 
 -- none of the kept jobs that the job depends on has ended other than completed
 abbrev pub IsUnfailed : List Job → Job → Type 0
-IsUnfailed jobs job = All (λ other. Contains job.request.dependencies other.id → has_failed other.status ≡ false) jobs
+IsUnfailed jobs job = All (λ other. Contains job.request.dependencies other.id →
+    has_failed other.status ≡ false) jobs
 
--- A job's id ends in its number, which is 1 or more and at most the last one. There are no more runs than jobs.
+-- A job's id ends in its number, which is 1 or more and at most the last one. There are no more
+-- runs than jobs.
 pub record IsNumbered (last : ℕ) (job : Job) : Type 0 where
   pub least : 1 ≤ job.number
   pub most : job.number ≤ last
   pub id : number_in job.id ≡ job.number
   pub run : job.run ≤ job.number
 
--- What each file of a job is: where it isn't read, it has the code of a file. It has fewer records taken than the limit,
+-- What each file of a job is: where it isn't read, it has the code of a file. It has fewer records
+-- taken than the limit,
 -- and counts no more than these.
 pub record IsFeed (feed : Feed) : Type 0 where
   pub kind : has_file_code feed.kind ≡ true
@@ -77,10 +80,12 @@ pub record AreJobs (kept : Kept) : Type 0 where
   pub few : length kept.jobs ≤ most_kept
   -- the first unended job doesn't wait, and all others do
   pub front : IfSome (front_job kept.jobs) (λ job. waits job ≡ false)
-  pub behind : AllPairs (λ a b. is_unended a ≡ true → is_unended b ≡ true → b.status ≡ InQueue) kept.jobs
+  pub behind : AllPairs (λ a b. is_unended a ≡ true → is_unended b ≡ true → b.status ≡ InQueue)
+      kept.jobs
   pub queued : count_by waits kept.jobs ≤ most_queued
   -- an unended job depends on earlier ones, none of which has ended other than completed
-  pub earlier : All (λ job. is_unended job ≡ true → All (λ id. number_in id < job.number) job.request.dependencies) kept.jobs
+  pub earlier : All (λ job. is_unended job ≡ true →
+      All (λ id. number_in id < job.number) job.request.dependencies) kept.jobs
   pub unfailed : All (λ job. is_unended job ≡ true → IsUnfailed kept.jobs job) kept.jobs
   -- just a job in progress has unended files
   pub running : All (λ job. has_open job ≡ is_in_progress job.status) kept.jobs

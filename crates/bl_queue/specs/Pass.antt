@@ -17,8 +17,10 @@ is_blocked jobs job = is_unended job && list_any (λ id. failed_id jobs id) job.
 abbrev pub after_pass : ℕ → List Job → Job → Job
 after_pass moment earlier job = if is_blocked earlier job then unsatisfied moment job else job
 
--- the list as far as a pass needs it: the numbers rise, the ids end in them, and unended jobs depend on earlier ones
+-- the list as far as a pass needs it: the numbers rise, the ids end in them, and unended jobs
+-- depend on earlier ones
 pub record AreOrdered (jobs : List Job) : Type 0 where
   pub rising : AllPairs (λ a b. a.number < b.number) jobs
   pub ids : All (λ job. number_in job.id ≡ job.number) jobs
-  pub earlier : All (λ job. is_unended job ≡ true → All (λ id. number_in id < job.number) job.request.dependencies) jobs
+  pub earlier : All (λ job. is_unended job ≡ true →
+      All (λ id. number_in id < job.number) job.request.dependencies) jobs

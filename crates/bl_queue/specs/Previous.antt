@@ -15,11 +15,14 @@ found_files job = nat_lt 0 job.run && is_none job.end_log
 
 -- an older load of the same source and format that found files
 abbrev pub may_go_before : Job → Job → Bool
-may_go_before job older = nat_lt older.number job.number && (pointwise nat_eq older.request.source job.request.source && (older.request.format == job.request.format && found_files older))
+may_go_before job older = nat_lt older.number job.number &&
+    (pointwise nat_eq older.request.source job.request.source &&
+    (older.request.format == job.request.format && found_files older))
 
 -- the newest of these
 abbrev pub previous_job : List Job → Job → Option Job
 previous_job jobs job = find (may_go_before job) (reverse jobs)
 
 abbrev pub previous : List Job → ℕ → Option ℕ
-previous jobs number = option_and_then (λ job. option_map (λ older. older.number) (previous_job jobs job)) (job_of number jobs)
+previous jobs number = option_and_then
+    (λ job. option_map (λ older. older.number) (previous_job jobs job)) (job_of number jobs)

@@ -48,34 +48,50 @@ counts_after rows duplicates logs counts =
 
 -- ---- the file and the job
 
--- so many more of its records are taken, with this digest, and with the logs of those that were refused
+-- so many more of its records are taken, with this digest, and with the logs of those that were
+-- refused
 abbrev pub fed_feed : ℕ → Digest → ℕ → List Log → Feed → Feed
 fed_feed rows digest duplicates logs feed =
-    record feed { status = InProgress; taken = feed.taken + rows; digest = digest; counts = counts_after rows duplicates logs feed.counts; logs = feed.logs ++ logs }
+    record feed {
+      status = InProgress;
+      taken = feed.taken + rows;
+      digest = digest;
+      counts = counts_after rows duplicates logs feed.counts;
+      logs = feed.logs ++ logs;
+    }
 
 -- of the logs of all files together the last stay
 abbrev pub last_logs : List Feed → List Feed
 last_logs [] = []
-last_logs (feed ∷ feeds) = record feed { logs = drop (length feed.logs - (most_logs - length (row_logs feeds))) feed.logs } ∷ last_logs feeds
+last_logs (feed ∷ feeds) = record feed {
+  logs = drop (length feed.logs - (most_logs - length (row_logs feeds))) feed.logs;
+} ∷ last_logs feeds
 
 -- without the first logs of the files, so many of them
 abbrev pub without_first : ℕ → List Feed → List Feed
 without_first number [] = []
-without_first number (feed ∷ feeds) = record feed { logs = drop number feed.logs } ∷ without_first (number - length feed.logs) feeds
+without_first number (feed ∷ feeds) =
+    record feed { logs = drop number feed.logs } ∷ without_first (number - length feed.logs) feeds
 
 abbrev pub fed_job : ℕ → ℕ → ℕ → Digest → ℕ → List Log → Job → Job
 fed_job moment place rows digest duplicates logs job =
-    record job { latest = moment; feeds = last_logs (with_feed place (fed_feed rows digest duplicates logs) job.feeds) }
+    record job {
+      latest = moment;
+      feeds = last_logs (with_feed place (fed_feed rows digest duplicates logs) job.feeds);
+    }
 
 -- the job has an unended file at this place, of which so many records can be taken
 abbrev pub MayFeed : ℕ → ℕ → Job → Type 0
-MayFeed place rows job = IsSomeAnd (slice_get job.feeds place) (λ feed. (is_open feed.status ≡ true) × (feed.taken + rows < record_limit))
+MayFeed place rows job = IsSomeAnd (slice_get job.feeds place)
+    (λ feed. (is_open feed.status ≡ true) × (feed.taken + rows < record_limit))
 
 -- the same of a file, with what is taken
 abbrev pub MayTake : ℕ → ℕ → List Log → Feed → Type 0
-MayTake rows duplicates logs feed = IsFeed feed × (feed.taken + rows < record_limit) × (duplicates + length logs ≤ rows)
+MayTake rows duplicates logs feed =
+    IsFeed feed × (feed.taken + rows < record_limit) × (duplicates + length logs ≤ rows)
 
--- So many rows of the file of this number, counted from 1, may be taken, with so many duplicates and logs.
+-- So many rows of the file of this number, counted from 1, may be taken, with so many duplicates
+-- and logs.
 pub record MayTakeRows (jobs : List Job) (job feed rows duplicates logs : ℕ) : Type 0 where
   pub number : 1 ≤ feed
   pub front : IsSomeAnd (front_job jobs) (λ it. (it.number ≡ job) × MayFeed (feed - 1) rows it)

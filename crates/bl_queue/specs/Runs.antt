@@ -34,7 +34,11 @@ with_open_ended status feeds = map (open_ended status) feeds
 -- ---- the job is cancelled
 
 abbrev pub cancelled_job : ℕ → Job → Job
-cancelled_job moment job = record job { status = CancelledByUser; latest = moment; feeds = with_open_ended feed.CancelledByUser job.feeds }
+cancelled_job moment job = record job {
+  status = CancelledByUser;
+  latest = moment;
+  feeds = with_open_ended feed.CancelledByUser job.feeds;
+}
 
 -- the job is kept, and hasn't ended
 abbrev pub MayCancel : List Job → ℕ → Type 0
@@ -42,7 +46,8 @@ MayCancel jobs number = IsSomeAnd (job_of number jobs) (λ it. is_unended it ≡
 
 -- nor has it a file that hasn't
 abbrev pub MayEnd : List Job → ℕ → Type 0
-MayEnd jobs number = IsSomeAnd (job_of number jobs) (λ it. (is_unended it ≡ true) × (has_open it ≡ false))
+MayEnd jobs number = IsSomeAnd (job_of number jobs)
+    (λ it. (is_unended it ≡ true) × (has_open it ≡ false))
 
 -- ---- a file ends
 
@@ -74,7 +79,8 @@ end_log end.Modified = Some (bare_log FeedModified)
 abbrev pub ended_feed : FeedEnd → Feed → Feed
 ended_feed how feed = record feed { status = end_status how; end_log = end_log how }
 
--- The end of one file stops the job: where it could not be read, and where the load stops at errors, each but a whole one.
+-- The end of one file stops the job: where it could not be read, and where the load stops at
+-- errors, each but a whole one.
 abbrev pub stops : Bool → FeedEnd → Bool
 stops fail_on_error end.Completed = false
 stops fail_on_error (end.Stopped log) = fail_on_error
@@ -90,10 +96,12 @@ with_feed (suc place) change (feed ∷ feeds) = feed ∷ with_feed place change 
 
 -- where the end of a file stops the job, each other one that hasn't ended ends
 abbrev pub stopped : Bool → FeedEnd → List Feed → List Feed
-stopped fail_on_error how feeds = if stops fail_on_error how then with_open_ended feed.CancelledDueToErrors feeds else feeds
+stopped fail_on_error how feeds =
+    if stops fail_on_error how then with_open_ended feed.CancelledDueToErrors feeds else feeds
 
 abbrev pub feeds_after : Bool → ℕ → FeedEnd → List Feed → List Feed
-feeds_after fail_on_error place how feeds = stopped fail_on_error how (with_feed place (ended_feed how) feeds)
+feeds_after fail_on_error place how feeds =
+    stopped fail_on_error how (with_feed place (ended_feed how) feeds)
 
 -- a job all of whose files are completed is completed, and else it failed
 abbrev pub whole_status : List Feed → JobStatus
@@ -104,13 +112,18 @@ abbrev pub closed : Job → Job
 closed job = if has_open job then job else record job { status = whole_status job.feeds }
 
 abbrev pub job_after_feed : ℕ → ℕ → FeedEnd → Job → Job
-job_after_feed moment place how job = closed (record job { latest = moment; feeds = feeds_after job.request.fail_on_error place how job.feeds })
+job_after_feed moment place how job =
+    closed (record job {
+      latest = moment;
+      feeds = feeds_after job.request.fail_on_error place how job.feeds;
+    })
 
 -- ---- a job is started
 
 -- the job is the first that hasn't ended, and isn't started
 abbrev pub MayStart : List Job → ℕ → Type 0
-MayStart jobs number = IsSomeAnd (front_job jobs) (λ it. (it.number ≡ number) × (it.status ≡ NotStarted))
+MayStart jobs number = IsSomeAnd (front_job jobs)
+    (λ it. (it.number ≡ number) × (it.status ≡ NotStarted))
 
 -- the load that it goes on with: the previous one, but where it is to begin anew
 abbrev pub by_mode : Mode → Option Job → Option Job
@@ -119,7 +132,8 @@ by_mode Resume previous = previous
 by_mode Auto previous = previous
 
 abbrev pub goes_on_from : List Job → ℕ → Option Job
-goes_on_from jobs number = option_and_then (λ job. by_mode job.request.mode (previous_job jobs job)) (job_of number jobs)
+goes_on_from jobs number = option_and_then (λ job. by_mode job.request.mode (previous_job jobs job))
+    (job_of number jobs)
 
 -- the run of a load, and the number of the one before it
 abbrev pub run_after : Option Job → ℕ
@@ -135,30 +149,39 @@ feeds_of None = []
 feeds_of (Some older) = older.feeds
 
 abbrev pub started_job : ℕ → ℕ → ℕ → Job → Job
-started_job moment run previous job = record job { started = moment; latest = moment; run = run; previous = previous }
+started_job moment run previous job =
+    record job { started = moment; latest = moment; run = run; previous = previous }
 
 -- A file that isn't read has failed at once. It stops a load that is to stop at errors.
 abbrev pub begun : Bool → List Feed → List Feed
-begun fail_on_error feeds = if fail_on_error && list_any (λ feed. is_failed feed.status) feeds then with_open_ended feed.CancelledDueToErrors feeds else feeds
+begun fail_on_error feeds = if fail_on_error && list_any (λ feed. is_failed feed.status) feeds
+    then with_open_ended feed.CancelledDueToErrors feeds else feeds
 
 -- it goes on with these files, and has ended where each of them has
 abbrev pub running_job : ℕ → ℕ → ℕ → List Feed → Job → Job
-running_job moment run previous feeds job = closed (record (started_job moment run previous job) { status = InProgress; feeds = begun job.request.fail_on_error feeds })
+running_job moment run previous feeds job =
+    closed (record (started_job moment run previous job) {
+      status = InProgress;
+      feeds = begun job.request.fail_on_error feeds;
+    })
 
 -- or it fails for this reason
 abbrev pub refused_job : ℕ → ℕ → ℕ → LogCode → Job → Job
-refused_job moment run previous code job = record (started_job moment run previous job) { status = Failed; end_log = Some (bare_log code) }
+refused_job moment run previous code job =
+    record (started_job moment run previous job) { status = Failed; end_log = Some (bare_log code) }
 
 abbrev pub IsRefused : ℕ → ℕ → LogCode → Kept → Kept → Type 0
 IsRefused moment number code old new =
-    IsChanged moment number (refused_job moment (run_after (goes_on_from old.jobs number)) (number_of (goes_on_from old.jobs number)) code) old new
+    IsChanged moment number (refused_job moment (run_after (goes_on_from old.jobs number))
+    (number_of (goes_on_from old.jobs number)) code) old new
 
 -- the files that were found, and those that go on from the load before
 abbrev pub IsRunning : ℕ → ℕ → List Found → Kept → Kept → Type 0
 IsRunning moment number found old new =
     (feeds : List Feed)
     × AreCarried (feeds_of (goes_on_from old.jobs number)) found feeds
-    × IsChanged moment number (running_job moment (run_after (goes_on_from old.jobs number)) (number_of (goes_on_from old.jobs number)) feeds) old new
+    × IsChanged moment number (running_job moment (run_after (goes_on_from old.jobs number))
+    (number_of (goes_on_from old.jobs number)) feeds) old new
 
 abbrev pub IsStarted : ℕ → ℕ → PlanResult → Kept → Kept → Type 0
 IsStarted moment number (plan.Feeds found) old new = IsRunning moment number found old new
@@ -169,7 +192,8 @@ IsStarted moment number (plan.TooManyFiles n) old new = IsRefused moment number 
 
 -- the files that go on from these are not too many
 abbrev pub FitsIn : List Feed → List Found → Type 0
-FitsIn previous found = (feeds : List Feed) × AreCarried previous found feeds × (length feeds ≤ most_files)
+FitsIn previous found = (feeds : List Feed) × AreCarried previous found feeds
+    × (length feeds ≤ most_files)
 
 abbrev pub HasRoom : List Job → ℕ → PlanResult → Type 0
 HasRoom jobs number (plan.Feeds found) = FitsIn (feeds_of (goes_on_from jobs number)) found

@@ -14,10 +14,13 @@ pub record HaveLogs (feeds : List Feed) (logs : ℕ) : Type 0 where
   pub are : length (row_logs feeds) ≡ logs
 
 abbrev pub IsTaking : List Job → Taking → Type 0
-IsTaking jobs taking = IsSomeAnd (slice_get jobs taking.place) (λ job. (job.number ≡ taking.number) × HaveLogs job.feeds taking.logs)
+IsTaking jobs taking = IsSomeAnd (slice_get jobs taking.place)
+    (λ job. (job.number ≡ taking.number) × HaveLogs job.feeds taking.logs)
 
 abbrev pub IsStanding : List Job → ℕ → Standing → Type 0
-IsStanding jobs number standing = IsSomeAnd (slice_get jobs standing.place) (λ job. (job.number ≡ number) × IfSome standing.logs (HaveLogs job.feeds))
+IsStanding jobs number standing =
+    IsSomeAnd (slice_get jobs standing.place)
+    (λ job. (job.number ≡ number) × IfSome standing.logs (HaveLogs job.feeds))
 
 pub record AreKept (kept : Kept) (taking : Option Taking) : Type 0 where
   pub are : AreJobs kept

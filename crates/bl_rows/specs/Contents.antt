@@ -7,7 +7,8 @@ use Rattle.csv.specs.Reading.{default_config, records, strip_bom}
 abbrev pub Fields : Type 0
 Fields = List (List ℕ)
 
--- The records of a file, the header first. One byte order mark at the front is dropped, an empty line
+-- The records of a file, the header first. One byte order mark at the front is dropped, an empty
+-- line
 -- is no record, and records may differ in length.
 unfoldable pub contents : List ℕ → List Fields
 contents bytes = records default_config (strip_bom bytes)

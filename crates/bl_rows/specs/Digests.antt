@@ -17,7 +17,8 @@ abbrev pub header_digest : List Fields → List ℕ
 header_digest [] = sha256 []
 header_digest (header ∷ rows) = sha256 (record_text header)
 
--- The digest after so many of a file's records, the header first among them and not counted: that of
+-- The digest after so many of a file's records, the header first among them and not counted: that
+-- of
 -- the digest before, followed by the record's text.
 unfoldable pub digest_after : List Fields → ℕ → List ℕ
 digest_after all zero = header_digest all

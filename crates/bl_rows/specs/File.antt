@@ -21,7 +21,8 @@ abbrev pub ReadsWhole : Option Files → List ℕ → Result FileBytes FileRefus
 ReadsWhole None path _ = Unit {0}
 ReadsWhole (Some files) path (Ok file) = get files path ≡ Some file.bytes
 ReadsWhole (Some files) path (Err Missing) = get files path ≡ None
-ReadsWhole (Some files) path (Err TooLarge) = (bytes : List ℕ) × (get files path ≡ Some bytes) × (file_limit < length bytes)
+ReadsWhole (Some files) path (Err TooLarge) =
+    (bytes : List ℕ) × (get files path ≡ Some bytes) × (file_limit < length bytes)
 ReadsWhole (Some files) path (Err ReadFault) = Unit {0}
 ReadsWhole (Some files) path (Err NoMemory) = Unit {0}
 

@@ -32,8 +32,10 @@ told_or (Some code) number others = Some (code, number)
 told_or None number others = others
 
 -- the first column from this number on that is at fault, and its code
-abbrev pub first_told : (ColumnUse → List ℕ → Option LogCode) → ℕ → List ColumnUse → Fields → Option Told
-first_told tells number (role ∷ uses) (field ∷ fields) = told_or (tells role field) number (first_told tells (number + 1) uses fields)
+abbrev pub first_told : (ColumnUse → List ℕ → Option LogCode) → ℕ → List ColumnUse → Fields →
+    Option Told
+first_told tells number (role ∷ uses) (field ∷ fields) =
+    told_or (tells role field) number (first_told tells (number + 1) uses fields)
 first_told tells number _ _ = None
 
 abbrev pub missing_code : Side → ColumnUse → List ℕ → Option LogCode
@@ -60,7 +62,9 @@ are_small fields = nat_le (sum_by length fields) record_limit
 
 abbrev pub whole_code : Columns → Fields → Option LogCode
 whole_code columns fields =
-    if length fields == length columns.uses then (if list_all is_utf8 fields then (if are_small fields then None else Some RecordTooLarge) else Some NotUtf8)
+    if length fields == length columns.uses
+    then (if list_all is_utf8 fields
+    then (if are_small fields then None else Some RecordTooLarge) else Some NotUtf8)
     else Some ColumnCount
 
 -- the values of properties, together
@@ -80,7 +84,8 @@ abbrev pub cells_told : Columns → Fields → Option Told
 cells_told columns fields =
     told_or (whole_code columns fields) 0
     (first_of (first_told (missing_code columns.side) 1 columns.uses fields)
-    (first_of (first_told (long_code columns.side) 1 columns.uses fields) (first_told refused_code 1 columns.uses fields)))
+    (first_of (first_told (long_code columns.side) 1 columns.uses fields)
+    (first_told refused_code 1 columns.uses fields)))
 
 -- what all rules tell
 abbrev pub told : Columns → Fields → Option Told
@@ -88,21 +93,26 @@ told columns fields = first_of (cells_told columns fields) (many_told (value_cou
 
 -- the row of a record without a fault
 abbrev pub row_by : Side → List ColumnUse → Fields → List RowProperty → Row
-row_by side.Vertex uses fields properties = Vertex (system_cell is_id_use uses fields) (labels_in (system_cell is_label_use uses fields)) properties
+row_by side.Vertex uses fields properties =
+    Vertex (system_cell is_id_use uses fields) (labels_in (system_cell is_label_use uses fields))
+    properties
 row_by side.Edge uses fields properties =
-    Edge (system_cell is_id_use uses fields) (edge_label (system_cell is_label_use uses fields)) (system_cell is_from_use uses fields) (system_cell is_to_use uses fields) properties
+    Edge (system_cell is_id_use uses fields) (edge_label (system_cell is_label_use uses fields))
+    (system_cell is_from_use uses fields) (system_cell is_to_use uses fields) properties
 
 -- the row of a record, by the fault that is told
 abbrev pub row_told : Option Told → Columns → Fields → Row
 row_told (Some fault) columns fields = Bad fault.0 fault.1
-row_told None columns fields = row_by columns.side columns.uses fields (properties_of columns fields)
+row_told None columns fields =
+    row_by columns.side columns.uses fields (properties_of columns fields)
 
 unfoldable pub record_row : Columns → Fields → Row
 record_row columns fields = row_told (told columns fields) columns fields
 
 -- A record has one row, and it is this one.
 abbrev pub HasOneRow : Type 0
-HasOneRow = (columns : Columns) (fields : Fields) (row : Row) → IsRowOf columns fields row ↔ (row ≡ record_row columns fields)
+HasOneRow = (columns : Columns) (fields : Fields) (row : Row) →
+    IsRowOf columns fields row ↔ (row ≡ record_row columns fields)
 
 -- The refusal is what was told. Want of memory tells nothing.
 abbrev pub Tells : Option Told → Refused → Type 0

@@ -35,7 +35,8 @@ Takes (Some next) found row after = (found ≡ true) × (row ≡ next.0) × Stan
 -- The same wherever the reader stands before it.
 abbrev pub TakesNext : Held → Bool → Fields → Held → Type 0
 TakesNext before found row after =
-    (state : State) (left : List ℕ) → StandsAt before state left → Takes (next_record default_config state [] [] left) found row after
+    (state : State) (left : List ℕ) → StandsAt before state left →
+    Takes (next_record default_config state [] [] left) found row after
 
 -- The records of these bytes, from a state on.
 unfoldable pub records_after : State → List ℕ → List Fields
@@ -49,7 +50,8 @@ rows_in (Some left) state = records_after state left
 -- the records that are left, of a reader that may have ended
 abbrev pub rows_left : Bool → Held → List Fields
 rows_left true reader = []
-rows_left false reader = rows_in (source_of (cursor_remaining (λ v. Some v.items)) reader) (reader_state reader)
+rows_left false reader = rows_in (source_of (cursor_remaining (λ v. Some v.items)) reader)
+    (reader_state reader)
 
 abbrev pub left_unless : Bool → List Fields → Option (List Fields)
 left_unless true rows = None
@@ -62,7 +64,8 @@ records_left it = left_unless it.lost (rows_left it.ended it.reader)
 -- These records are left of a reader that may have ended.
 abbrev pub HasLeftBy : Bool → Held → List Fields → Type 0
 HasLeftBy true reader rows = rows ≡ []
-HasLeftBy false reader rows = (state : State) × (left : List ℕ) × StandsAt reader state left × (rows ≡ records_after state left) × IsSmall left
+HasLeftBy false reader rows = (state : State) × (left : List ℕ) × StandsAt reader state left
+    × (rows ≡ records_after state left) × IsSmall left
 
 abbrev pub IsSoundUnless : Bool → Bool → Held → Type 0
 IsSoundUnless true ended reader = Unit {0}

@@ -1,4 +1,5 @@
--- What a record says under the columns of its file (Neptune User Guide, "Gremlin load data format"):
+-- What a record says under the columns of its file (Neptune User Guide, "Gremlin load data
+-- format"):
 -- the set of its faults, and its row where it has none.
 use Rattle.std.specs.Prelude.{◌≡◌, ◌⊎◌, ℕ, ◌==◌, ◌+◌, ◌<◌, nat_le, nat_eq, Bool, true, false, not, ◌&&◌, if◌then◌else◌, codes, List, [], ◌∷◌, ◌++◌, length, map, filter, sum_by, slice_get, Some, Ok, Err}
 use Rattle.std.specs.declared.result.Result.{Result}
@@ -24,7 +25,8 @@ use Rattle.bl_value.specs.declared.row.Row.{Row}
 use Rattle.bl_value.specs.declared.row.Row.TheVariants.{Vertex, Edge, Bad}
 use Rattle.bl_rows.specs.Contents.{Fields}
 
--- System cells: those of the columns whose names begin with `~`. They lose the ASCII spaces at their ends.
+-- System cells: those of the columns whose names begin with `~`. They lose the ASCII spaces at
+-- their ends.
 
 abbrev pub is_id_use : ColumnUse → Bool
 is_id_use Id = true
@@ -44,7 +46,8 @@ is_to_use _ = false
 
 -- the cell of a system column, and an empty one where there is no such column
 abbrev pub system_cell : (ColumnUse → Bool) → List ColumnUse → Fields → List ℕ
-system_cell is_wanted (column ∷ uses) (field ∷ fields) = if is_wanted column then without_spaces field else system_cell is_wanted uses fields
+system_cell is_wanted (column ∷ uses) (field ∷ fields) =
+    if is_wanted column then without_spaces field else system_cell is_wanted uses fields
 system_cell is_wanted _ _ = []
 
 -- texts without the spaces at their ends, those that aren't empty
@@ -75,12 +78,18 @@ values_in column bytes = values_or_none (values_of column.kind column.many bytes
 abbrev pub property_in : ℕ → ColumnUse → List ℕ → List RowProperty
 property_in number (Property column) bytes =
     if length (values_in column bytes) == 0 then []
-    else record { key = column.name; column = number; single = column.single; values = values_in column bytes } ∷ []
+    else record {
+      key = column.name;
+      column = number;
+      single = column.single;
+      values = values_in column bytes;
+    } ∷ []
 property_in number _ bytes = []
 
 -- the properties of the columns from this number on
 abbrev pub properties_from : ℕ → List ColumnUse → Fields → List RowProperty
-properties_from number (column ∷ uses) (field ∷ fields) = property_in number column field ++ properties_from (number + 1) uses fields
+properties_from number (column ∷ uses) (field ∷ fields) =
+    property_in number column field ++ properties_from (number + 1) uses fields
 properties_from number _ _ = []
 
 abbrev pub properties_of : Columns → Fields → List RowProperty
@@ -134,14 +143,17 @@ property_items column bytes = if column.many then items bytes else bytes ∷ []
 -- the item with this number of a property cell is refused
 abbrev pub IsRefused : ColumnUse → List ℕ → ℕ → CellRefusal → Type 0
 IsRefused (Property column) bytes number refused =
-    (place : ℕ) × (item : List ℕ) × (number ≡ place + 1) × (slice_get (property_items column bytes) place ≡ Some item) × (values_of_item column.kind item ≡ Err refused)
+    (place : ℕ) × (item : List ℕ) × (number ≡ place + 1)
+    × (slice_get (property_items column bytes) place ≡ Some item)
+    × (values_of_item column.kind item ≡ Err refused)
 IsRefused _ bytes number refused = ⊥
 
 -- a fact of the column with this number, counted from 1, and of the record's field in it
 abbrev pub HoldsAt : List ColumnUse → Fields → ℕ → (ColumnUse → List ℕ → Type 0) → Type 0
 HoldsAt uses fields number Fact =
     (place : ℕ) × (role : ColumnUse) × (field : List ℕ)
-    × (number ≡ place + 1) × (slice_get uses place ≡ Some role) × (slice_get fields place ≡ Some field) × Fact role field
+    × (number ≡ place + 1) × (slice_get uses place ≡ Some role)
+    × (slice_get fields place ≡ Some field) × Fact role field
 
 -- A fault of a record. The column is 0 where its rule is about the whole record, and the item is 0
 -- where it is about a whole cell.
@@ -154,16 +166,24 @@ abbrev pub OfRecord : ℕ → ℕ → Type 0
 OfRecord column item = (column ≡ 0) × (item ≡ 0)
 
 abbrev pub IsFaultBy : Columns → Fields → LogCode → ℕ → ℕ → Type 0
-IsFaultBy columns fields ColumnCount column item = OfRecord column item × ((length fields == length columns.uses) ≡ false)
-IsFaultBy columns fields NotUtf8 column item = OfRecord column item × (list_all is_utf8 fields ≡ false)
-IsFaultBy columns fields RecordTooLarge column item = OfRecord column item × (nat_le (sum_by length fields) record_limit ≡ false)
+IsFaultBy columns fields ColumnCount column item =
+    OfRecord column item × ((length fields == length columns.uses) ≡ false)
+IsFaultBy columns fields NotUtf8 column item =
+    OfRecord column item × (list_all is_utf8 fields ≡ false)
+IsFaultBy columns fields RecordTooLarge column item =
+    OfRecord column item × (nat_le (sum_by length fields) record_limit ≡ false)
 IsFaultBy columns fields MissingId column item =
-    (item ≡ 0) × HoldsAt columns.uses fields column (λ role field. is_missing columns.side role field ≡ true)
+    (item ≡ 0) × HoldsAt columns.uses fields column
+    (λ role field. is_missing columns.side role field ≡ true)
 IsFaultBy columns fields IdTooLong column item =
-    (item ≡ 0) × HoldsAt columns.uses fields column (λ role field. is_long columns.side role field ≡ true)
-IsFaultBy columns fields NotOfType column item = HoldsAt columns.uses fields column (λ role field. IsRefused role field item refusal.NotOfType)
-IsFaultBy columns fields OutOfRange column item = HoldsAt columns.uses fields column (λ role field. IsRefused role field item refusal.OutOfRange)
-IsFaultBy columns fields TooManyValues column item = OfRecord column item × (nat_le (value_count columns fields) value_limit ≡ false)
+    (item ≡ 0) × HoldsAt columns.uses fields column
+    (λ role field. is_long columns.side role field ≡ true)
+IsFaultBy columns fields NotOfType column item =
+    HoldsAt columns.uses fields column (λ role field. IsRefused role field item refusal.NotOfType)
+IsFaultBy columns fields OutOfRange column item =
+    HoldsAt columns.uses fields column (λ role field. IsRefused role field item refusal.OutOfRange)
+IsFaultBy columns fields TooManyValues column item =
+    OfRecord column item × (nat_le (value_count columns fields) value_limit ≡ false)
 IsFaultBy columns fields _ column item = ⊥
 
 -- the fault is one of the record's
@@ -186,7 +206,8 @@ rule_of _ = 0
 abbrev pub Precedes : Fault → Fault → Type 0
 Precedes a b =
     (rule_of a.code < rule_of b.code)
-    ⊎ ((rule_of a.code ≡ rule_of b.code) × ((a.column < b.column) ⊎ ((a.column ≡ b.column) × (a.item < b.item))))
+    ⊎ ((rule_of a.code ≡ rule_of b.code)
+    × ((a.column < b.column) ⊎ ((a.column ≡ b.column) × (a.item < b.item))))
 
 -- the least of a record's faults
 pub record IsLeast (columns : Columns) (fields : Fields) (fault : Fault) : Type 0 where
@@ -212,4 +233,5 @@ IsRowOf columns fields (Edge id label from to properties) =
     × (from ≡ system_cell is_from_use columns.uses fields)
     × (to ≡ system_cell is_to_use columns.uses fields)
     × (properties ≡ properties_of columns fields)
-IsRowOf columns fields (Bad code column) = (fault : Fault) × (code ≡ fault.code) × (column ≡ fault.column) × IsLeast columns fields fault
+IsRowOf columns fields (Bad code column) =
+    (fault : Fault) × (code ≡ fault.code) × (column ≡ fault.column) × IsLeast columns fields fault

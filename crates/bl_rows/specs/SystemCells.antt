@@ -1,4 +1,5 @@
--- The system cells of a record and the columns of theirs that break a rule, gathered column by column.
+-- The system cells of a record and the columns of theirs that break a rule, gathered column by
+-- column.
 use Rattle.std.specs.Prelude.{◌≡◌, ℕ, ◌+◌, if◌then◌else◌, List, [], ◌∷◌, None, Some}
 use Rattle.std.specs.declared.option.Option.{Option}
 use Rattle.bl_value.specs.Cells.{without_spaces}
@@ -15,7 +16,8 @@ use Rattle.bl_rows.specs.FirstFaults.{Told, first_of, first_told, long_code, mis
 use Rattle.bl_rows.specs.Rows.{edge_label, is_from_use, is_id_use, is_label_use, is_long, is_missing, is_to_use, labels_in, system_cell}
 use Rattle.bl_rows.specs.declared.system_cells.SystemCells.{SystemCells}
 
--- the cells without the spaces at their ends, and the numbers of the leftmost columns without an id and with one too long
+-- the cells without the spaces at their ends, and the numbers of the leftmost columns without an id
+-- and with one too long
 pub record Gathered : Type 0 where
   pub id : List ℕ
   pub label : List ℕ
@@ -50,7 +52,8 @@ with_system side number role field later = record {
 
 -- those of the columns from this number on
 abbrev pub gather : Side → ℕ → List ColumnUse → Fields → Gathered
-gather side number (role ∷ uses) (field ∷ fields) = with_system side number role field (gather side (number + 1) uses fields)
+gather side number (role ∷ uses) (field ∷ fields) =
+    with_system side number role field (gather side (number + 1) uses fields)
 gather side number _ _ = nothing_gathered
 
 -- what is told of a column, if there is one
@@ -61,7 +64,8 @@ told_at code (Some number) = Some (code, number)
 -- what the rules about system cells tell
 abbrev pub system_told : Columns → Fields → Option Told
 system_told columns fields =
-    first_of (first_told (missing_code columns.side) 1 columns.uses fields) (first_told (long_code columns.side) 1 columns.uses fields)
+    first_of (first_told (missing_code columns.side) 1 columns.uses fields)
+    (first_told (long_code columns.side) 1 columns.uses fields)
 
 -- the system cells of a record
 pub record AreCellsOf (columns : Columns) (fields : Fields) (cells : Gathered) : Type 0 where
@@ -73,4 +77,5 @@ pub record AreCellsOf (columns : Columns) (fields : Fields) (cells : Gathered) :
 -- the row with these system cells and properties
 abbrev pub row_of_cells : Side → Gathered → List RowProperty → Row
 row_of_cells side.Vertex cells properties = Vertex cells.id (labels_in cells.label) properties
-row_of_cells side.Edge cells properties = Edge cells.id (edge_label cells.label) cells.from cells.to properties
+row_of_cells side.Edge cells properties =
+    Edge cells.id (edge_label cells.label) cells.from cells.to properties

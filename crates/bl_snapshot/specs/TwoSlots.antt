@@ -12,7 +12,8 @@ use Rattle.bl_snapshot.specs.declared.slot_file.Numbers.{Numbers}
 use Rattle.bl_snapshot.specs.declared.slot_file.Gate.{Gate}
 use Rattle.bl_snapshot.specs.declared.slot_file.Gate.TheVariants.{Unfinished, Closed, Open}
 
--- what contracts see of two slots: their disks, and for each the entries of the snapshot that it held when it was last looked at
+-- what contracts see of two slots: their disks, and for each the entries of the snapshot that it
+-- held when it was last looked at
 pub record SlotsRecord (D : Type 0) : Type 0 where
   pub left : D
   pub right : D
@@ -21,8 +22,11 @@ pub record SlotsRecord (D : Type 0) : Type 0 where
 
 abbrev pub slots_code : {D : Type 0} → Coded D → Coded (SlotsRecord D)
 slots_code {D} code =
-    code_by (D × (D × (Option ℕ × Option ℕ))) (coded× code (coded× code (coded× (coded_option coded_ℕ) (coded_option coded_ℕ))))
-    (λ s. (s.left, (s.right, (s.left_open, s.right_open)))) (λ p. record { left = p.0; right = p.1.0; left_open = p.1.1.0; right_open = p.1.1.1 }) (λ _. refl)
+    code_by (D × (D × (Option ℕ × Option ℕ)))
+    (coded× code (coded× code (coded× (coded_option coded_ℕ) (coded_option coded_ℕ))))
+    (λ s. (s.left, (s.right, (s.left_open, s.right_open))))
+    (λ p. record { left = p.0; right = p.1.0; left_open = p.1.1.0; right_open = p.1.1.1 })
+    (λ _. refl)
 
 -- The left slot is at work: it isn't the newest. Where none is open it is the left one.
 abbrev pub works_left : Option ℕ → Option ℕ → Bool
@@ -34,7 +38,8 @@ module _ {D : Type 0} where
   abbrev pub is_left : SlotsRecord D → Bool
   is_left s = works_left s.left_open s.right_open
 
-  -- Of two slots in which one is at work, that one's disk, as it is in the second argument. It isn't the newest.
+  -- Of two slots in which one is at work, that one's disk, as it is in the second argument. It
+  -- isn't the newest.
   abbrev pub at_work : SlotsRecord D → SlotsRecord D → D
   at_work s now = cond (is_left s) now.left now.right
 
@@ -60,7 +65,8 @@ module _ {D : Type 0} (of : Ghosts D) where
 
   -- a sound disk holds a snapshot with this number of entries, or none
   abbrev pub IsKnownAs : D → Option ℕ → Type 0
-  IsKnownAs disk entries = IsSound of disk → (found : Option Snapshot) × Holds disk found × (entries_of found ≡ entries)
+  IsKnownAs disk entries = IsSound of disk →
+      (found : Option Snapshot) × Holds disk found × (entries_of found ≡ entries)
 
   -- from one disk to the other nothing was written
   pub record IsUntouched (old new : D) : Type 0 where
@@ -86,11 +92,13 @@ Means (Some content) found = slot_in content ≡ found
 
 -- the newest of two slots
 abbrev pub NewestIs : Option (List ℕ) → Option (List ℕ) → Option Snapshot → Type 0
-NewestIs left right found = (l : Option Snapshot) × (r : Option Snapshot) × Means left (Ok l) × Means right (Ok r) × (newer l r ≡ found)
+NewestIs left right found = (l : Option Snapshot) × (r : Option Snapshot) × Means left (Ok l)
+    × Means right (Ok r) × (newer l r ≡ found)
 
 -- the first of two slots that is none, and the place in it
 abbrev pub FaultIs : Option (List ℕ) → Option (List ℕ) → JournalFault → Type 0
-FaultIs left right (NotAJournal place) = Means left (Err place) ⊎ ((l : Option Snapshot) × Means left (Ok l) × Means right (Err place))
+FaultIs left right (NotAJournal place) =
+    Means left (Err place) ⊎ ((l : Option Snapshot) × Means left (Ok l) × Means right (Err place))
 FaultIs left right StoreFault = Unit {0}
 FaultIs left right NoMemory = Unit {0}
 
@@ -106,7 +114,8 @@ IsOfDevice NoMemory = Unit {0}
 abbrev pub LengthIs : Option (List ℕ) → Result (Option ℕ) JournalFault → Type 0
 LengthIs None result = Unit {0}
 LengthIs (Some content) (Ok None) = slot_in content ≡ Ok None
-LengthIs (Some content) (Ok (Some n)) = (slot_in content ≡ Ok (Some (snapshot_at n content))) × (16 ≤ n) × (20 + n ≤ length content)
+LengthIs (Some content) (Ok (Some n)) =
+    (slot_in content ≡ Ok (Some (snapshot_at n content))) × (16 ≤ n) × (20 + n ≤ length content)
 LengthIs (Some content) (Err (NotAJournal place)) = slot_in content ≡ Err place
 LengthIs (Some content) (Err StoreFault) = Unit {0}
 LengthIs (Some content) (Err NoMemory) = Unit {0}
@@ -116,14 +125,20 @@ abbrev pub NumbersAre : Option (List ℕ) → Result (Option Numbers) JournalFau
 NumbersAre None result = Unit {0}
 NumbersAre (Some content) (Ok None) = slot_in content ≡ Ok None
 NumbersAre (Some content) (Ok (Some n)) =
-    (slot_in content ≡ Ok (Some (record { entries = n.entries; place = n.place; body = take n.rest (drop 36 content) }))) × (36 + n.rest ≤ length content)
+    (slot_in content ≡ Ok (Some (record {
+      entries = n.entries;
+      place = n.place;
+      body = take n.rest (drop 36 content);
+    }))) × (36 + n.rest ≤ length content)
 NumbersAre (Some content) (Err (NotAJournal place)) = slot_in content ≡ Err place
 NumbersAre (Some content) (Err StoreFault) = Unit {0}
 NumbersAre (Some content) (Err NoMemory) = Unit {0}
 
 -- the first of two slots in which a reading finds a fault
 abbrev pub NumbersFault : Option (List ℕ) → Option (List ℕ) → JournalFault → Type 0
-NumbersFault left right (NotAJournal place) = NumbersAre left (Err (NotAJournal place)) ⊎ ((l : Option Numbers) × NumbersAre left (Ok l) × NumbersAre right (Err (NotAJournal place)))
+NumbersFault left right (NotAJournal place) =
+    NumbersAre left (Err (NotAJournal place))
+    ⊎ ((l : Option Numbers) × NumbersAre left (Ok l) × NumbersAre right (Err (NotAJournal place)))
 NumbersFault left right StoreFault = Unit {0}
 NumbersFault left right NoMemory = Unit {0}
 

@@ -1,6 +1,12 @@
 // The first bytes of a slot's file.
 ghost use Rattle.std.specs.Prelude.{◌≡◌, ◌+◌, ◌<◌, ◌^◌, length, drop};
-ghost use Rattle.bl_snapshot.specs.SlotFiles.{first_difference, open_length, number_4, number_8, fits as fits_in};
+ghost use Rattle.bl_snapshot.specs.SlotFiles.{
+  first_difference,
+  open_length,
+  number_4,
+  number_8,
+  fits as fits_in,
+};
 
 /// `NEPTLOAD-SNAP-1`
 const HEAD: [u8; 15] = [78, 69, 80, 84, 76, 79, 65, 68, 45, 83, 78, 65, 80, 45, 49];

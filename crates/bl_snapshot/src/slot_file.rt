@@ -1,10 +1,38 @@
 // One slot over its disk.
-ghost use Rattle.std.specs.Prelude.{◌≡◌, ◌⊎◌, ◌↔◌, ◌+◌, ◌<◌, ◌≤◌, ◌^◌, List, ℕ, length, Some, IfOk, OnOk, OnErr, IfErr, IfSome, IsErrOf, Ok, MatchResult};
+ghost use Rattle.std.specs.Prelude.{
+  ◌≡◌,
+  ◌⊎◌,
+  ◌↔◌,
+  ◌+◌,
+  ◌<◌,
+  ◌≤◌,
+  ◌^◌,
+  List,
+  ℕ,
+  length,
+  Some,
+  IfOk,
+  OnOk,
+  OnErr,
+  IfErr,
+  IfSome,
+  IsErrOf,
+  Ok,
+  MatchResult,
+};
 ghost use Rattle.std.specs.declared.option.Option.{Option};
 ghost use Rattle.bl_outside.specs.Counts.{HasDeviceCause, Rose};
 ghost use Rattle.bl_outside.specs.Sound.{IsSound, IsSettled, Since};
 ghost use Rattle.bl_snapshot.specs.SlotFiles.{behind_gate, slot_in, ClosedOr};
-ghost use Rattle.bl_snapshot.specs.TwoSlots.{Holds, IsShut, LengthIs, NumbersAre, GateIs, Means, IsOfDevice};
+ghost use Rattle.bl_snapshot.specs.TwoSlots.{
+  Holds,
+  IsShut,
+  LengthIs,
+  NumbersAre,
+  GateIs,
+  Means,
+  IsOfDevice,
+};
 
 use crate::Snapshot;
 use crate::front::{BEHIND_GATE, BODY, GATE, NEW_FILE, NUMBERS, body_length, first_eight, fits};

@@ -1,10 +1,39 @@
 // Two slots.
-ghost use Rattle.std.specs.Prelude.{◌≡◌, ◌⊎◌, ◌↔◌, ◌+◌, ◌<◌, ◌≤◌, ◌^◌, List, ℕ, length, Some, Ok, IfOk, OnOk, OnErr, IfErr, IsErrOf, MatchResult};
+ghost use Rattle.std.specs.Prelude.{
+  ◌≡◌,
+  ◌⊎◌,
+  ◌↔◌,
+  ◌+◌,
+  ◌<◌,
+  ◌≤◌,
+  ◌^◌,
+  List,
+  ℕ,
+  length,
+  Some,
+  Ok,
+  IfOk,
+  OnOk,
+  OnErr,
+  IfErr,
+  IsErrOf,
+  MatchResult,
+};
 ghost use Rattle.std.specs.declared.option.Option.{Option};
 ghost use Rattle.bl_outside.specs.Counts.{Rose};
 ghost use Rattle.bl_outside.specs.Sound.{IsSound, IsSettled, Since};
 ghost use Rattle.bl_snapshot.specs.SlotFiles.{slot_in, entries_of};
-ghost use Rattle.bl_snapshot.specs.TwoSlots.{NewestIs, FaultIs, NumbersAre, NumbersFault, entries_in, works_left as left_works, IsKnownAs, IsUntouched, IsOfDevice};
+ghost use Rattle.bl_snapshot.specs.TwoSlots.{
+  NewestIs,
+  FaultIs,
+  NumbersAre,
+  NumbersFault,
+  entries_in,
+  works_left as left_works,
+  IsKnownAs,
+  IsUntouched,
+  IsOfDevice,
+};
 
 use crate::Snapshot;
 use crate::slot_file::{Numbers, close_file, fill_file, numbers_of, snapshot_behind};
@@ -168,7 +197,15 @@ fn newest_of<D: Disk>(left: &mut D, right: &mut D) -> Result<Found, JournalFault
 
 impl<D: Disk> Slots<D> {
     ghost use Rattle.bl_snapshot.specs.SlotFiles.{ClosedOr};
-    ghost use Rattle.bl_snapshot.specs.TwoSlots.{Holds, IsShut, IsKnown, IsClosed, at_work, spared, is_left};
+    ghost use Rattle.bl_snapshot.specs.TwoSlots.{
+      Holds,
+      IsShut,
+      IsKnown,
+      IsClosed,
+      at_work,
+      spared,
+      is_left,
+    };
 
     /// Over the disks of the left and the right slot. Nothing is looked at yet.
     pub fn over(alloc: Global, left: D, right: D) -> Slots<D>

@@ -20,7 +20,16 @@ pub struct Turnstile<T: Told> {
 }
 
 impl<T: Told> Turnstile<T> {
-    ghost use Rattle.bl_turnstile.specs.Passes.{seen, mine, turnstile_of, value_inside, seen_inside, mine_inside, IsPassOf, IsInside};
+    ghost use Rattle.bl_turnstile.specs.Passes.{
+      seen,
+      mine,
+      turnstile_of,
+      value_inside,
+      seen_inside,
+      mine_inside,
+      IsPassOf,
+      IsInside,
+    };
 
     /// A turnstile with this value, and the first pass. A refusal hands the value back.
     pub fn new(alloc: Global, value: T) -> Result<(Turnstile<T>, Pass), (NoMemory, T)>

@@ -19,7 +19,8 @@ use Rattle.bl_value.specs.declared.cell.CellRefusal.TheVariants.{NotUtf8, NotOfT
 -- without the spaces in front
 abbrev pub without_spaces_in_front : List ℕ → List ℕ
 without_spaces_in_front [] = []
-without_spaces_in_front (byte ∷ rest) = if byte == 32 then without_spaces_in_front rest else byte ∷ rest
+without_spaces_in_front (byte ∷ rest) =
+    if byte == 32 then without_spaces_in_front rest else byte ∷ rest
 
 -- without the ASCII spaces at both ends
 abbrev pub without_spaces : List ℕ → List ℕ
@@ -27,17 +28,20 @@ without_spaces cell = reverse (without_spaces_in_front (reverse (without_spaces_
 
 -- an optional sign, then one digit or more
 abbrev pub is_integer : List ℕ → Bool
-is_integer text = not (length (without_leading_sign text) == 0) && list_all is_ascii_digit (without_leading_sign text)
+is_integer text = not (length (without_leading_sign text) == 0) && list_all is_ascii_digit
+    (without_leading_sign text)
 
 -- a number of that many signed bits
 abbrev pub fits : ℕ → ℤ → Bool
-fits bits number = int_le (neg_ℤ (pos (2 ^ (bits - 1)))) number && int_lt number (pos (2 ^ (bits - 1)))
+fits bits number = int_le (neg_ℤ (pos (2 ^ (bits - 1)))) number && int_lt number
+    (pos (2 ^ (bits - 1)))
 
 -- the integer of that many bits that a text writes
 abbrev pub integer : ℕ → (ℤ → Value) → List ℕ → Result Value CellRefusal
 integer bits value text =
     if not (is_integer text) then Err NotOfType
-    else (if fits bits (signed_digits_value 10 text) then Ok (value (signed_digits_value 10 text)) else Err OutOfRange)
+    else (if fits bits (signed_digits_value 10 text) then Ok (value (signed_digits_value 10 text))
+    else Err OutOfRange)
 
 -- `true` in any letter case
 abbrev pub is_true : List ℕ → Bool
@@ -62,7 +66,8 @@ has_date_form text =
 
 -- the number that two digits in front write, and 0 where none stand there
 abbrev pub two_digits : List ℕ → ℕ
-two_digits (tens ∷ ones ∷ rest) = if is_ascii_digit tens && is_ascii_digit ones then (tens - 48) * 10 + (ones - 48) else 0
+two_digits (tens ∷ ones ∷ rest) =
+    if is_ascii_digit tens && is_ascii_digit ones then (tens - 48) * 10 + (ones - 48) else 0
 two_digits _ = 0
 
 -- The parts of a date's text. A clock that it doesn't have stands at midnight.
@@ -86,7 +91,8 @@ second_of text = two_digits (drop 17 text)
 
 -- the calendar has this day
 abbrev pub is_day : ℕ → ℕ → ℕ → Bool
-is_day year month day = nat_le 1 month && nat_le month 12 && nat_le 1 day && nat_le day (days_in_month (pos year) month)
+is_day year month day = nat_le 1 month && nat_le month 12 && nat_le 1 day && nat_le day
+    (days_in_month (pos year) month)
 
 -- a clock shows this time
 abbrev pub is_time : ℕ → ℕ → ℕ → Bool
@@ -137,8 +143,10 @@ pieces_from false [] = []
 pieces_from true [] = plain 92 ∷ []
 pieces_from true (byte ∷ rest) =
     if byte == 59 then escaped ∷ pieces_from false rest
-    else (if byte == 92 then plain 92 ∷ pieces_from true rest else plain 92 ∷ (plain byte ∷ pieces_from false rest))
-pieces_from false (byte ∷ rest) = if byte == 92 then pieces_from true rest else plain byte ∷ pieces_from false rest
+    else (if byte == 92 then plain 92 ∷ pieces_from true rest else plain 92
+    ∷ (plain byte ∷ pieces_from false rest))
+pieces_from false (byte ∷ rest) =
+    if byte == 92 then pieces_from true rest else plain byte ∷ pieces_from false rest
 
 abbrev pub pieces : List ℕ → List Piece
 pieces cell = pieces_from false cell
@@ -156,14 +164,16 @@ byte_of (plain byte) = byte
 abbrev pub items_from : List ℕ → List Piece → List (List ℕ)
 items_from begun [] = begun ∷ []
 items_from begun (piece ∷ rest) =
-    if is_divider piece then begun ∷ items_from [] rest else items_from (begun ++ byte_of piece ∷ []) rest
+    if is_divider piece then begun ∷ items_from [] rest
+    else items_from (begun ++ byte_of piece ∷ []) rest
 
 -- the items of an array cell, empty and repeated ones among them
 abbrev pub items : List ℕ → List (List ℕ)
 items cell = items_from [] (pieces cell)
 
 -- values in front of others, where no refusal stands in the way
-abbrev pub in_front : Result (List Value) CellRefusal → Result (List Value) CellRefusal → Result (List Value) CellRefusal
+abbrev pub in_front : Result (List Value) CellRefusal → Result (List Value) CellRefusal →
+    Result (List Value) CellRefusal
 in_front (Err refusal) others = Err refusal
 in_front (Ok values) (Err refusal) = Err refusal
 in_front (Ok values) (Ok others) = Ok (values ++ others)
@@ -187,7 +197,9 @@ abbrev pub each_once : Result (List Value) CellRefusal → Result (List Value) C
 each_once (Err refusal) = Err refusal
 each_once (Ok values) = Ok (once_behind (eq_by_cmp value_cmp) [] values)
 
--- The values of a property cell, each once: those of its items where it may have many, and else that
+-- The values of a property cell, each once: those of its items where it may have many, and else
+-- that
 -- of the whole cell.
 abbrev pub values_of : ValueType → Bool → List ℕ → Result (List Value) CellRefusal
-values_of kind many bytes = each_once (if many then item_values kind (items bytes) else values_in kind bytes)
+values_of kind many bytes = each_once
+    (if many then item_values kind (items bytes) else values_in kind bytes)

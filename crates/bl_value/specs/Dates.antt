@@ -10,12 +10,15 @@ IsDayNumber day = (negsuc 719527 ≤ℤ day) × (day ≤ℤ pos 2932896)
 -- the last of the years from 0 to the given one that has begun on a day
 abbrev pub year_from : ℕ → ℤ → ℕ
 year_from zero day = 0
-year_from (suc year) day = if int_le (days_from_civil (pos (suc year)) 1 1) day then suc year else year_from year day
+year_from (suc year) day = if int_le (days_from_civil (pos (suc year)) 1 1) day then suc year
+    else year_from year day
 
 -- the last of the months from 1 to the given one that has begun on a day of the year
 abbrev pub month_from : ℕ → ℕ → ℤ → ℕ
 month_from zero year day = 0
-month_from (suc month) year day = if int_le (days_from_civil (pos year) (suc month) 1) day then suc month else month_from month year day
+month_from (suc month) year day =
+    if int_le (days_from_civil (pos year) (suc month) 1) day then suc month
+    else month_from month year day
 
 -- the year, month and day of the month of a day number
 unfoldable pub year_at : ℤ → ℕ
@@ -39,9 +42,11 @@ abbrev pub day_text : ℤ → List ℕ
 day_text day = in_four (year_at day) ++ 45 ∷ in_two (month_at day) ++ 45 ∷ in_two (day_at day)
 
 abbrev pub time_text : ℕ → List ℕ
-time_text second = in_two (second / 3600) ++ 58 ∷ in_two (second / 60 % 60) ++ 58 ∷ in_two (second % 60)
+time_text second = in_two (second / 3600) ++ 58 ∷ in_two (second / 60 % 60) ++ 58
+    ∷ in_two (second % 60)
 
 -- the text of the seconds from 1970 UTC, in the years 0000 to 9999
 abbrev pub date_text : ℤ → List ℕ
 date_text seconds =
-    day_text (int_div_euclid seconds (pos 86400)) ++ 84 ∷ time_text (unsigned_abs (int_rem_euclid seconds (pos 86400))) ++ 90 ∷ []
+    day_text (int_div_euclid seconds (pos 86400)) ++ 84
+    ∷ time_text (unsigned_abs (int_rem_euclid seconds (pos 86400))) ++ 90 ∷ []

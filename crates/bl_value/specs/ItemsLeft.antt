@@ -19,6 +19,7 @@ bytes_left None = zero
 bytes_left (Some rest) = suc (length rest)
 
 -- values behind others, without those that are like one further left, where none is refused
-abbrev pub with_values : List Value → Result (List Value) CellRefusal → Result (List Value) CellRefusal
+abbrev pub with_values : List Value → Result (List Value) CellRefusal →
+    Result (List Value) CellRefusal
 with_values before (Err refusal) = Err refusal
 with_values before (Ok values) = Ok (before ++ once_behind (eq_by_cmp value_cmp) before values)

@@ -14,7 +14,8 @@ once_behind alike left (item ∷ items) =
 
 -- a set has the items of a list
 abbrev pub HasEach : {X : Type 0} → (X → X → Ordering) → BTreeSet X → List X → Type 0
-HasEach {X} cmp seen items = (item : X) → contains cmp seen item ≡ list_any (λ other. eq_by_cmp cmp other item) items
+HasEach {X} cmp seen items = (item : X) →
+    contains cmp seen item ≡ list_any (λ other. eq_by_cmp cmp other item) items
 
 -- the same of a set that may not be kept
 abbrev pub MayHaveEach : {X : Type 0} → (X → X → Ordering) → Option (BTreeSet X) → List X → Type 0

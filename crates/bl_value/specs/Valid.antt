@@ -54,7 +54,8 @@ IsChange (AddEdge id label from to) = IsId id × (IsId label × (IsId from × Is
 IsChange (AddValue side id key value) = IsId id × (IsKey key × IsValue value)
 IsChange (RemoveValue side id key value) = IsId id × (IsKey key × IsValue value)
 
--- What can be printed: texts in UTF-8 and dates in their range, of whatever length. All that is valid can.
+-- What can be printed: texts in UTF-8 and dates in their range, of whatever length. All that is
+-- valid can.
 abbrev pub IsPrintableValue : Value → Type 0
 IsPrintableValue (Str text) = IsUtf8 text
 IsPrintableValue (Date seconds) = IsDate seconds

@@ -51,5 +51,6 @@ IsRecordCode _ = ⊥
 abbrev pub IsRow : Row → Type 0
 IsRow (Vertex id labels properties) = IsId id × AreLabels labels × AreProperties properties
 IsRow (Edge id label from to properties) =
-    IsId id × IsId label × IsId from × IsId to × AreProperties properties × All (λ property. property.single ≡ true) properties
+    IsId id × IsId label × IsId from × IsId to × AreProperties properties
+    × All (λ property. property.single ≡ true) properties
 IsRow (Bad code column) = IsRecordCode code
