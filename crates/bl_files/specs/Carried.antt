@@ -29,8 +29,7 @@ abbrev pub kept_status : FeedStatus → FeedStatus
 kept_status status = if is_completed status then Completed else NotStarted
 
 -- A kept feed has its kind, records, digest, counts and logs. It stays completed, or is to be begun
--- again behind its
--- records. Its end log goes.
+-- again behind its records. Its end log goes.
 abbrev pub kept : Feed → Feed
 kept feed = record feed { status = kept_status feed.status; end_log = None }
 
@@ -72,8 +71,7 @@ HasKept previous name = (feed : Feed) × Contains previous feed × (is_kept feed
     × (feed.name ≡ name)
 
 -- The feed is one of the new job: a previous one that is kept, found or not, or a new one of a file
--- that was found and
--- of whose name none is kept.
+-- that was found and of whose name none is kept.
 abbrev pub IsCarriedFeed : List Feed → List Found → Feed → Type 0
 IsCarriedFeed previous found feed =
     ((old : Feed) × Contains previous old × (is_kept old ≡ true) × (feed ≡ kept old))

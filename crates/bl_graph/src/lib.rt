@@ -2,9 +2,8 @@
 //!
 //! [`Graph::admit`] says what a row does to a graph: a list of changes, nothing (a duplicate), or a
 //! refusal with its code. [`Graph::apply`] makes one change, and [`Graph::fits`] is the test that
-//! it
-//! may be made. Contracts see the graph as the finite maps of its definition. Inside it is held by
-//! numbers of ids and names (`Tables`, `Owner`), which no public clause sees.
+//! it may be made. Contracts see the graph as the finite maps of its definition. Inside it is held
+//! by numbers of ids and names (`Tables`, `Owner`), which no public clause sees.
 //!
 //! Words of the contracts: `specs/Graph` (the maps), `specs/Replay` (changes applied),
 //! `specs/Admission` (what a row does), `specs/Admitted` and `specs/WithRow` (what is promised of

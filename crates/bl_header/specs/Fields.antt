@@ -1,7 +1,6 @@
 -- What a field of a header says (Neptune User Guide, "Gremlin load data format"): `~id`, `~label`,
 -- `~from`, `~to`, or a property's name, optionally a colon and a type text. The fields here have
--- lost
--- the ASCII spaces at both ends.
+-- lost the ASCII spaces at both ends.
 use Rattle.std.specs.Prelude.{◌≡◌, ℕ, ◌==◌, nat_le, Bool, true, false, not, ◌&&◌, if◌then◌else◌, codes, List, [], ◌∷◌, drop, length, None, Some}
 use Rattle.std.specs.declared.option.Option.{Option}
 use Rattle.std.specs.Option.{option_map, option_and_then}

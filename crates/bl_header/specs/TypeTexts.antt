@@ -1,6 +1,5 @@
 -- What a type text says (Neptune User Guide, "Gremlin load data format"): a type name, then
--- optionally
--- `(single)` or `(set)`, then optionally `[]`, in any letter case.
+-- optionally `(single)` or `(set)`, then optionally `[]`, in any letter case.
 use Rattle.std.specs.Prelude.{◌≡◌, ◌↔◌, ℕ, ◌-◌, Bool, true, false, if◌then◌else◌, nat_eq, codes, List, [], ◌∷◌, ◌++◌, map, take, drop, length, None, Some}
 use Rattle.std.specs.declared.option.Option.{Option}
 use Rattle.std.specs.Option.{option_map}

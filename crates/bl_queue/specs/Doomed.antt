@@ -7,8 +7,7 @@ use Rattle.bl_queue.specs.Statuses.{has_failed}
 use Rattle.bl_queue.specs.Jobs.{IsDependency, is_unended, waits}
 
 -- A walk from a job: each job but the last is unended and depends on the next, which is kept. The
--- last one ended other
--- than completed.
+-- last one ended other than completed.
 abbrev pub LeadsToFailure : List Job → Job → List Job → Type 0
 LeadsToFailure jobs job [] = has_failed job.status ≡ true
 LeadsToFailure jobs job (next ∷ walk) =

@@ -62,8 +62,7 @@ pub record IsNumbered (last : ℕ) (job : Job) : Type 0 where
   pub run : job.run ≤ job.number
 
 -- What each file of a job is: where it isn't read, it has the code of a file. It has fewer records
--- taken than the limit,
--- and counts no more than these.
+-- taken than the limit, and counts no more than these.
 pub record IsFeed (feed : Feed) : Type 0 where
   pub kind : has_file_code feed.kind ≡ true
   pub taken : feed.taken < record_limit

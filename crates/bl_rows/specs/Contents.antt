@@ -8,8 +8,7 @@ abbrev pub Fields : Type 0
 Fields = List (List ℕ)
 
 -- The records of a file, the header first. One byte order mark at the front is dropped, an empty
--- line
--- is no record, and records may differ in length.
+-- line is no record, and records may differ in length.
 unfoldable pub contents : List ℕ → List Fields
 contents bytes = records default_config (strip_bom bytes)
 

@@ -18,8 +18,7 @@ header_digest [] = sha256 []
 header_digest (header ∷ rows) = sha256 (record_text header)
 
 -- The digest after so many of a file's records, the header first among them and not counted: that
--- of
--- the digest before, followed by the record's text.
+-- of the digest before, followed by the record's text.
 unfoldable pub digest_after : List Fields → ℕ → List ℕ
 digest_after all zero = header_digest all
 digest_after all (suc k) = sha256 (digest_after all k ++ record_text (get_or all (suc k) []))

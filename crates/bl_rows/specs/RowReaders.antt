@@ -7,8 +7,7 @@ use Rattle.bl_rows.specs.RecordReaders.{HasLeft}
 use Rattle.bl_rows.specs.declared.row_reader.RowReader.{RowReader}
 
 -- The reader is of a file with these records, the header first. So many were taken behind the
--- header,
--- and these are left.
+-- header, and these are left.
 pub record Stands (reader : RowReader) (all : List Fields) (taken : ℕ) (left : List Fields) : Type 0
   where
     pub header_is : reader.header ≡ header_of all

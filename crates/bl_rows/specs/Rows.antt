@@ -1,6 +1,5 @@
 -- What a record says under the columns of its file (Neptune User Guide, "Gremlin load data
--- format"):
--- the set of its faults, and its row where it has none.
+-- format"): the set of its faults, and its row where it has none.
 use Rattle.std.specs.Prelude.{◌≡◌, ◌⊎◌, ℕ, ◌==◌, ◌+◌, ◌<◌, nat_le, nat_eq, Bool, true, false, not, ◌&&◌, if◌then◌else◌, codes, List, [], ◌∷◌, ◌++◌, length, map, filter, sum_by, slice_get, Some, Ok, Err}
 use Rattle.std.specs.declared.result.Result.{Result}
 use Rattle.std.specs.List.{list_all}

@@ -198,8 +198,7 @@ each_once (Err refusal) = Err refusal
 each_once (Ok values) = Ok (once_behind (eq_by_cmp value_cmp) [] values)
 
 -- The values of a property cell, each once: those of its items where it may have many, and else
--- that
--- of the whole cell.
+-- that of the whole cell.
 abbrev pub values_of : ValueType → Bool → List ℕ → Result (List Value) CellRefusal
 values_of kind many bytes = each_once
     (if many then item_values kind (items bytes) else values_in kind bytes)

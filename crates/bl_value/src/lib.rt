@@ -9,9 +9,8 @@
 //! Words of the contracts: `specs/Order` (the order of values), `specs/Once` (items without
 //! repeats), `specs/Cells` (what a cell and an array cell mean), `specs/Dates` and `specs/Json`
 //! (the text and the JSON of a value), `specs/Valid`, `specs/ValidColumns` and `specs/ValidRows`
-//! (what a
-//! valid thing is, and the limits). `specs/ItemsLeft` is for the private ones.
-//! This crate stands on `bl_outside`.
+//! (what a valid thing is, and the limits). `specs/ItemsLeft` is for the private ones. This crate
+//! stands on `bl_outside`.
 #![tactic(auto)]
 
 mod array;
