@@ -1,9 +1,10 @@
+mod Readings
+mod GivenOptions
 mod Lines
-mod Meanings
-mod SetRows
-mod PrintableChanges
-mod TakenRows
-mod FileLoads
-mod Finished
-mod Answered
+mod Prints
+mod GrownTwice
+mod FoundJobs
+mod MadeLoads
+mod MadeAll
+mod OpenedStores
 mod Reported

@@ -1,0 +1,12 @@
+pub mod SourceFiles
+pub mod Gathering
+pub mod OpenFiles
+pub mod Batching
+pub mod Resuming
+pub mod Finding
+pub mod Tasks
+pub mod Planning
+pub mod Prepares
+pub mod Committing
+pub mod TurnFaults
+pub mod Turns
