@@ -1,10 +1,9 @@
-mod Readings
-mod GivenOptions
 mod Lines
-mod Prints
-mod GrownTwice
-mod FoundJobs
-mod MadeLoads
-mod MadeAll
-mod OpenedStores
+mod Meanings
+mod SetRows
+mod PrintableChanges
+mod TakenRows
+mod FileLoads
+mod Finished
+mod Answered
 mod Reported

@@ -1,10 +1,9 @@
 pub mod Words
-pub mod Options
-pub mod Statuses
-pub mod JobTexts
-pub mod Outputs
-pub mod Printing
-pub mod LoadFaults
-pub mod Stores
+pub mod LoadIds
+pub mod Batches
 pub mod Loads
+pub mod Printable
+pub mod Taking
+pub mod Outputs
+pub mod Statuses
 pub mod Runs

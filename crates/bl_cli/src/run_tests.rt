@@ -1,19 +1,10 @@
 // Runs of the program over a folder, disks and streams in memory.
-ghost use Rattle.std.specs.Prelude.{◌≡◌, ◌<◌};
-
 use crate::{Status, run};
-use bl_engine::{Engine, Trouble};
-use bl_files::{Counts, totals};
-use bl_load::{Held, drain};
 use bl_outside::{
-    Disk, Disks, Faults, Fill, FixedClock, List, MemoryDisk, MemoryFolder, MemorySink,
-    MemorySource, NoMemory, Outside, Steps, Text,
+    Clock, Disks, Faults, FixedClock, List, MemoryDisk, MemoryFolder, MemorySink, MemorySource,
+    NoMemory, Text,
 };
-use bl_queue::JobStatus;
-use bl_workers::OpenGate;
 use std::alloc::{AllocError, Global};
-use std::marker::Brand;
-use std::sync::ledger::{Blank, Ledger};
 use std::thread::Threads;
 
 #[derive(Drop)]
@@ -21,25 +12,9 @@ struct Outcome {
     status: Status,
     out: Text,
     err: Text,
-    disks: Disks<MemoryDisk>,
 }
 
-// Which calls fail, by their number, and none where it is 0.
-#[derive(Clone, Copy)]
-struct Failing {
-    folder: u64,
-    journal: u64,
-    out: u64,
-    err: u64,
-}
-
-const NOTHING: Failing = Failing {
-    folder: 0,
-    journal: 0,
-    out: 0,
-    err: 0,
-};
-
+// The call with this number fails, and none where it is 0.
 fn failing(alloc: Global, number: u64) -> Result<Faults, NoMemory> {
     let mut fails = List::new(alloc);
     if number > 0 {
@@ -48,21 +23,8 @@ fn failing(alloc: Global, number: u64) -> Result<Faults, NoMemory> {
     Ok(Faults::of(fails, 0))
 }
 
-fn disk(alloc: Global, bytes: &[u8], fails: u64) -> Result<MemoryDisk, NoMemory> {
-    MemoryDisk::new(
-        alloc,
-        Text::copy_of(alloc, bytes)?,
-        failing(alloc, fails)?,
-    )
-}
-
-// A store whose journal has these bytes.
-fn store(alloc: Global, journal: &[u8], fails: u64) -> Result<Disks<MemoryDisk>, NoMemory> {
-    Ok(Disks {
-        journal: disk(alloc, journal, fails)?,
-        left: disk(alloc, b"", 0)?,
-        right: disk(alloc, b"", 0)?,
-    })
+fn disk(alloc: Global) -> Result<MemoryDisk, NoMemory> {
+    MemoryDisk::new(alloc, Text::new(alloc), Faults::none(alloc))
 }
 
 fn words_of(alloc: Global, text: &str) -> Result<Vec<String>, AllocError> {
@@ -73,51 +35,62 @@ fn words_of(alloc: Global, text: &str) -> Result<Vec<String>, AllocError> {
     Ok(words)
 }
 
-// Files by their paths below the bucket `b`.
-type FileTable = &'static [(&'static str, &'static [u8])];
-
-fn folder_of(alloc: Global, files: FileTable, fails: u64) -> Result<MemoryFolder, NoMemory> {
-    let mut folder = MemoryFolder::new(alloc, 3_000, failing(alloc, fails)?);
-    for (path, bytes) in files {
-        put(alloc, &mut folder, path, bytes)?;
-    }
-    Ok(folder)
-}
-
-fn put(
+// A run over a folder with one file. The calls of the folder, the output and the error output that
+// are to fail are given by their numbers.
+fn run_over<R: Threads + Sync>(
+    runtime: &R,
     alloc: Global,
-    folder: &mut MemoryFolder,
-    path: &str,
+    words: &str,
     bytes: &[u8],
-) -> Result<(), NoMemory> {
-    let path = format!(in alloc; "b/{path}")?;
-    folder.put_file(
-        Text::copy_of(alloc, path.as_bytes())?,
-        Text::copy_of(alloc, bytes)?,
+    fails: (u64, u64, u64),
+) -> Result<Outcome, NoMemory> {
+    run_at(
+        runtime,
+        alloc,
+        words,
+        bytes,
+        fails,
+        &mut FixedClock::new(0),
+        0,
     )
 }
 
-// A run over this folder and this store.
-fn run_over<R: Threads + Sync>(
-    rt: &R,
+// The same with another clock and salt. There is a compressed file beside the one.
+fn run_at<R: Threads + Sync, K: Clock>(
+    runtime: &R,
     alloc: Global,
     words: &str,
-    folder: &mut MemoryFolder,
-    disks: Disks<MemoryDisk>,
-    fails: Failing,
+    bytes: &[u8],
+    fails: (u64, u64, u64),
+    clock: &mut K,
+    salt: u128,
 ) -> Result<Outcome, NoMemory> {
+    let mut folder = MemoryFolder::new(alloc, 3_000, failing(alloc, fails.0)?);
+    folder.put_file(
+        Text::copy_of(alloc, b"b/x.csv")?,
+        Text::copy_of(alloc, bytes)?,
+    )?;
+    folder.put_file(
+        Text::copy_of(alloc, b"b/x.csv.gz")?,
+        Text::copy_of(alloc, bytes)?,
+    )?;
+    let disks = Disks {
+        journal: disk(alloc)?,
+        left: disk(alloc)?,
+        right: disk(alloc)?,
+    };
     let mut input = MemorySource::new(Text::new(alloc), 1, Faults::none(alloc));
-    let mut out = MemorySink::new(alloc, failing(alloc, fails.out)?);
-    let mut err = MemorySink::new(alloc, failing(alloc, fails.err)?);
+    let mut out = MemorySink::new(alloc, failing(alloc, fails.1)?);
+    let mut err = MemorySink::new(alloc, failing(alloc, fails.2)?);
     let words = words_of(alloc, words)?;
-    let (status, disks) = run(
-        rt,
+    let (status, _) = run(
+        runtime,
         alloc,
         &words,
-        folder,
+        &mut folder,
         disks,
-        &mut FixedClock::new(0),
-        0,
+        clock,
+        salt,
         &mut input,
         &mut out,
         &mut err,
@@ -126,507 +99,341 @@ fn run_over<R: Threads + Sync>(
         status,
         out: out.bytes().copy(alloc)?,
         err: err.bytes().copy(alloc)?,
-        disks,
     })
 }
 
-// A run over these files and an empty store.
-fn run_files<R: Threads + Sync>(
-    rt: &R,
-    alloc: Global,
-    words: &str,
-    files: FileTable,
-    fails: Failing,
-) -> Result<Outcome, NoMemory> {
-    let mut folder = folder_of(alloc, files, fails.folder)?;
-    let disks = store(alloc, b"", fails.journal)?;
-    run_over(rt, alloc, words, &mut folder, disks, fails)
+// A clock that goes on by a second at each reading.
+#[derive(Drop)]
+struct TickingClock {
+    last: u64,
+    readings: u64,
 }
 
-const FOLDER_OF_TWO: FileTable = &[
-    ("f/edges.csv", b"~id,~from,~to,~label\ne1,v1,v2,knows\n"),
-    ("f/vertices.csv", b"~id,~label\nv1,person\nv2,person\n"),
-];
+impl Clock for TickingClock {
+    ghost use Rattle.std.specs.Prelude.{None};
 
-const BYTE_RANGE: FileTable = &[("f", b"~id,age:Byte\na,127\nb,128\nc,-128\n")];
+    ghost last = { λ c. c.last };
 
-const SINGLE_VALUE: FileTable = &[("f", b"~id,name:String(single)\nv1,Ann\nv1,Ann\nv1,Bob\n")];
+    ghost readings = { λ c. c.readings };
 
-const EDGE_ERRORS: FileTable = &[
-    ("f/v.csv", b"~id\nv1\n"),
-    (
-        "f/e.csv",
-        b"~id,~from,~to,~label\ne1,v1,v1,likes\ne1,v1,v1,knows\ne2,v1,v9,likes\n",
-    ),
-];
+    ghost fixed = { λ _. None };
 
-const EMPTY_FILES: FileTable = &[
-    ("f/bom.csv", b"\xef\xbb\xbf~id\nv1\n"),
-    ("f/empty.csv", b""),
-    ("f/head.csv", b"~id\n"),
-];
-
-const COMPRESSED: FileTable = &[("f/v.csv", b"~id\nv1\n"), ("f/x.csv.gz", b"~id\nv2\n")];
-
-const PEOPLE: FileTable = &[("people.csv", b"~id,~label,name:String\nv1,person,Ann\n")];
-
-const USAGE: &[u8] = b"bl: usage: see help\n";
-
-// The line of a job: its number, its status and its totals.
-fn line(alloc: Global, number: u32, rest: &str) -> Result<Text, NoMemory> {
-    let line = format!(in alloc; "00000000-0000-4000-8000-{number:012} {rest}\n")?;
-    Text::copy_of(alloc, line.as_bytes())
-}
-
-#[test]
-fn each_load_ends_as_its_files_say(rt: HostRuntime) -> Result<(), NoMemory> {
-    let table: [(FileTable, &str, Status, &str); 13] = [
-        (
-            FOLDER_OF_TWO,
-            "load s3://b/f",
-            Status::Ok,
-            "LOAD_COMPLETED 3 0 0 0 0",
-        ),
-        (
-            BYTE_RANGE,
-            "load s3://b/f --keep-going",
-            Status::Ok,
-            "LOAD_COMPLETED 3 0 0 1 0",
-        ),
-        (
-            BYTE_RANGE,
-            "load s3://b/f",
-            Status::JobNotCompleted,
-            "LOAD_FAILED 2 0 0 1 0",
-        ),
-        (
-            SINGLE_VALUE,
-            "load s3://b/f --keep-going",
-            Status::Ok,
-            "LOAD_COMPLETED 3 1 0 0 1",
-        ),
-        (
-            SINGLE_VALUE,
-            "load s3://b/f --update-single",
-            Status::Ok,
-            "LOAD_COMPLETED 3 1 0 0 0",
-        ),
-        (
-            EDGE_ERRORS,
-            "load s3://b/f --keep-going",
-            Status::Ok,
-            "LOAD_COMPLETED 4 0 0 0 2",
-        ),
-        (
-            EMPTY_FILES,
-            "load s3://b/f",
-            Status::Ok,
-            "LOAD_COMPLETED 1 0 0 0 0",
-        ),
-        (
-            COMPRESSED,
-            "load s3://b/f --keep-going",
-            Status::JobNotCompleted,
-            "LOAD_FAILED 1 0 0 0 0",
-        ),
-        (
-            COMPRESSED,
-            "load s3://b/f",
-            Status::JobNotCompleted,
-            "LOAD_FAILED 0 0 0 0 0",
-        ),
-        (
-            PEOPLE,
-            "load s3://b/f",
-            Status::JobNotCompleted,
-            "LOAD_FAILED 0 0 0 0 0",
-        ),
-        (
-            FOLDER_OF_TWO,
-            "load s3://b/f --mode RESUME",
-            Status::JobNotCompleted,
-            "LOAD_FAILED 0 0 0 0 0",
-        ),
-        (
-            FOLDER_OF_TWO,
-            "load s3://b/f/ --mode NEW --update-single --keep-going",
-            Status::Ok,
-            "LOAD_COMPLETED 3 0 0 0 0",
-        ),
-        (
-            PEOPLE,
-            "load s3://b/people.csv --mode AUTO",
-            Status::Ok,
-            "LOAD_COMPLETED 1 0 0 0 0",
-        ),
-    ];
-    let alloc = rt.alloc();
-    for (files, words, status, rest) in &table {
-        let outcome = run_files(&rt, alloc, words, files, NOTHING)?;
-        assert!(rt; outcome.status == *status, "status of {words}");
-        let line = line(alloc, 1, rest)?;
-        assert!(rt; outcome.out.as_slice() == line.as_slice(), "output of {words}");
-        assert!(rt; outcome.err.is_empty(), "errors of {words}");
+    fn now(&mut self) -> u64 {
+        self.readings = self.readings.saturating_add(1);
+        self.last = self.last.saturating_add(1_000);
+        self.last
     }
-    Ok(())
 }
 
-#[test]
-fn other_words_are_refused(rt: HostRuntime) -> Result<(), NoMemory> {
-    let alloc = rt.alloc();
-    for words in [
-        "load",
-        "help",
-        "loads s3://b/f",
-        "load b/f",
-        "load s3://b/../f",
-        "load s3://B/f",
-        "load s3://b/f --change",
-        "load s3://b/f --mode",
-        "load s3://b/f --mode new",
-        "load s3://b/f --changes --changes",
-        "load s3://b/f --mode NEW --mode NEW",
-        "load s3://b/f --keep-going --mode AUTO --keep-going",
-        "load --changes s3://b/f",
-        "load s3://b/f s3://b/f",
-        "--changes load s3://b/f",
-    ] {
-        let outcome = run_files(&rt, alloc, words, FOLDER_OF_TWO, NOTHING)?;
-        assert!(rt; outcome.status == Status::Usage, "status of {words}");
-        assert!(rt; outcome.out.is_empty(), "output of {words}");
-        assert!(rt; outcome.err.as_slice() == USAGE, "errors of {words}");
+// A head, and a part that comes several times.
+fn repeated(alloc: Global, head: &[u8], part: &[u8], times: usize) -> Result<Text, NoMemory> {
+    let mut text = Text::copy_of(alloc, head)?;
+    for _ in 0..times {
+        text.extend(part)?;
     }
-    Ok(())
-}
-
-// ---- what is printed
-
-const FIRST_LOAD: &[u8] = b"{\"commitTimestamp\":0,\"data\":{\"id\":\"v1\",\"key\":\"label\",\"type\":\"vl\",\"value\":{\"dataType\":\"String\",\"value\":\"person\"}},\"eventId\":{\"commitNum\":1,\"opNum\":1},\"op\":\"ADD\"}\n{\"commitTimestamp\":0,\"data\":{\"id\":\"v1\",\"key\":\"name\",\"type\":\"vp\",\"value\":{\"dataType\":\"String\",\"value\":\"Ann\"}},\"eventId\":{\"commitNum\":1,\"opNum\":2},\"isLastOp\":true,\"op\":\"ADD\"}\n00000000-0000-4000-8000-000000000001 LOAD_COMPLETED 1 0 0 0 0\n";
-
-const EDGE_LINE: &[u8] = b"{\"commitTimestamp\":0,\"data\":{\"from\":\"v1\",\"id\":\"e1\",\"key\":\"label\",\"to\":\"v2\",\"type\":\"e\",\"value\":{\"dataType\":\"String\",\"value\":\"knows\"}},\"eventId\":{\"commitNum\":2,\"opNum\":1},\"isLastOp\":true,\"op\":\"ADD\"}\n00000000-0000-4000-8000-000000000001 LOAD_COMPLETED 3 0 0 0 0\n";
-
-const NEW_SINGLE: &[u8] = b"\"value\":{\"dataType\":\"String\",\"value\":\"Ann\"}},\"eventId\":{\"commitNum\":1,\"opNum\":3},\"op\":\"REMOVE\"}\n";
-
-// How often a text stands in another.
-fn count(text: &[u8], part: &[u8]) -> u64 {
-    let mut count: u64 = 0;
-    for place in text.windows(part.len().max(1)) {
-        if place == part {
-            count = count.saturating_add(1);
-        }
-    }
-    count
-}
-
-#[test]
-fn the_changes_of_a_load_are_printed_before_its_line(rt: HostRuntime) -> Result<(), NoMemory> {
-    let alloc = rt.alloc();
-    let first = run_files(&rt, alloc, "load s3://b/people.csv --changes", PEOPLE, NOTHING)?;
-    assert!(rt; first.status == Status::Ok && first.out.as_slice() == FIRST_LOAD);
-    let two = run_files(&rt, alloc, "load s3://b/f --changes", FOLDER_OF_TWO, NOTHING)?;
-    assert!(rt; count(two.out.as_slice(), b"\n") == 4);
-    assert!(rt; two.out.as_slice().ends_with(EDGE_LINE));
-    let words = "load s3://b/f --update-single --changes";
-    let single = run_files(&rt, alloc, words, SINGLE_VALUE, NOTHING)?;
-    assert!(rt; count(single.out.as_slice(), NEW_SINGLE) == 1);
-    Ok(())
-}
-
-// Another load's changes are not printed, and a load that goes on takes what is new.
-#[test]
-fn the_same_load_twice_adds_nothing(rt: HostRuntime) -> Result<(), NoMemory> {
-    let alloc = rt.alloc();
-    let mut folder = folder_of(alloc, FOLDER_OF_TWO, 0)?;
-    let words = "load s3://b/f --changes";
-    let first = run_over(&rt, alloc, words, &mut folder, store(alloc, b"", 0)?, NOTHING)?;
-    assert!(rt; first.status == Status::Ok);
-    let second = run_over(&rt, alloc, words, &mut folder, first.disks, NOTHING)?;
-    let expected = line(alloc, 2, "LOAD_COMPLETED 3 0 0 0 0")?;
-    assert!(rt; second.status == Status::Ok && second.out.as_slice() == expected.as_slice());
-    let words = "load s3://b/f --mode NEW --changes";
-    let third = run_over(&rt, alloc, words, &mut folder, second.disks, NOTHING)?;
-    let expected = line(alloc, 3, "LOAD_COMPLETED 3 3 0 0 0")?;
-    assert!(rt; third.status == Status::Ok && third.out.as_slice() == expected.as_slice());
-    put(alloc, &mut folder, "g.csv", b"~id\nv3\n")?;
-    let words = "load s3://b/g.csv --changes";
-    let other = run_over(&rt, alloc, words, &mut folder, third.disks, NOTHING)?;
-    assert!(rt; other.status == Status::Ok && count(other.out.as_slice(), b"\n") == 2);
-    assert!(rt; count(other.out.as_slice(), b"\"commitNum\":3,") == 1);
-    Ok(())
-}
-
-// ---- loads that stop and go on
-
-// Records `v1,1` to `v1000,1000`, then `v1001` with this cell, then `v1002,5`.
-fn thousand(alloc: Global, cell: &str) -> Result<Text, NoMemory> {
-    let mut text = Text::copy_of(alloc, b"~id,age:Int\n")?;
-    for number in 1u32..=1000 {
-        let row = format!(in alloc; "v{number},{number}\n")?;
-        text.extend(row.as_bytes())?;
-    }
-    let rest = format!(in alloc; "v1001,{cell}\nv1002,5\n")?;
-    text.extend(rest.as_bytes())?;
     Ok(text)
 }
 
-fn stopped_folder(alloc: Global, cell: &str) -> Result<MemoryFolder, NoMemory> {
-    let mut folder = folder_of(alloc, &[("f/b.csv", b"~id\nw1\n")], 0)?;
-    put(alloc, &mut folder, "f/a.csv", thousand(alloc, cell)?.as_slice())?;
-    Ok(folder)
-}
+const FIRST_LOAD: &[u8] =
+    b"{\"commitTimestamp\":0,\"data\":{\"id\":\"v1\",\"key\":\"label\",\"type\":\"vl\",\"value\":{\"dataType\":\"String\",\"value\":\"person\"}},\"eventId\":{\"commitNum\":1,\"opNum\":1},\"op\":\"ADD\"}\n{\"commitTimestamp\":0,\"data\":{\"id\":\"v1\",\"key\":\"name\",\"type\":\"vp\",\"value\":{\"dataType\":\"String\",\"value\":\"Ann\"}},\"eventId\":{\"commitNum\":1,\"opNum\":2},\"isLastOp\":true,\"op\":\"ADD\"}\n00000000-0000-4000-8000-000000000001 LOAD_COMPLETED 1 0 0 0 0\n";
 
-#[test]
-fn a_stopped_load_goes_on_once_its_record_is_mended(rt: HostRuntime) -> Result<(), NoMemory> {
-    let alloc = rt.alloc();
-    let mut folder = stopped_folder(alloc, "x")?;
-    let words = "load s3://b/f --changes";
-    let first = run_over(&rt, alloc, words, &mut folder, store(alloc, b"", 0)?, NOTHING)?;
-    assert!(rt; first.status == Status::JobNotCompleted);
-    let expected = line(alloc, 1, "LOAD_FAILED 1001 0 0 1 0")?;
-    assert!(rt; first.out.as_slice().ends_with(expected.as_slice()));
-    let lines = first.out.as_slice().iter().filter(|byte| **byte == b'\n').count();
-    assert!(rt; lines == 2001);
-    put(alloc, &mut folder, "f/a.csv", thousand(alloc, "7")?.as_slice())?;
-    let words = "load s3://b/f --mode RESUME --changes";
-    let second = run_over(&rt, alloc, words, &mut folder, first.disks, NOTHING)?;
-    assert!(rt; second.status == Status::Ok);
-    let expected = line(alloc, 2, "LOAD_COMPLETED 1003 0 0 0 0")?;
-    assert!(rt; second.out.as_slice().ends_with(expected.as_slice()));
-    assert!(rt; count(second.out.as_slice(), b"\"commitNum\":2,") == 4);
-    assert!(rt; count(second.out.as_slice(), b"\"commitNum\":3,") == 1);
-    assert!(rt; count(second.out.as_slice(), b"\n") == 6);
-    Ok(())
-}
+const PEOPLE: &[u8] = b"~id,~label,name:String\nv1,person,Ann\n";
 
-// ---- faults
+const NONE: &[u8] = b"";
 
-const STORE_FAULT: &[u8] = b"bl: store fault\n";
+const NO_RECORD: &[u8] = b"00000000-0000-4000-8000-000000000001 LOAD_COMPLETED 0 0 0 0 0\n";
+
+const ONE: &[u8] = b"00000000-0000-4000-8000-000000000001 LOAD_COMPLETED 1 0 0 0 0\n";
+
+const TWO: &[u8] = b"00000000-0000-4000-8000-000000000001 LOAD_COMPLETED 2 0 0 0 0\n";
+
+const ONE_OF_TWO: &[u8] = b"00000000-0000-4000-8000-000000000001 LOAD_COMPLETED 2 1 0 0 0\n";
+
+const THOUSAND: &[u8] = b"00000000-0000-4000-8000-000000000001 LOAD_COMPLETED 1000 999 0 0 0\n";
+
+const SEVENTEEN: &[u8] = b"a,1;2;3;4;5;6;7;8;9;10;11;12;13;14;15;16;17\n";
+
+const FULL: &[u8] = b"00000000-0000-4000-8000-000000000001 LOAD_COMPLETED 964 963 0 0 0\n";
+
+const FAILED: &[u8] = b"00000000-0000-4000-8000-000000000001 LOAD_FAILED 0 0 0 0 0\n";
+
+const USAGE: &[u8] = b"bl: usage: see help\n";
+
+const NOT_BUILT: &[u8] = b"bl: not built yet\n";
 
 const WRITE_FAULT: &[u8] = b"bl: write fault\n";
 
-// Where a call of the journal fails the load isn't made; the next one makes it.
 #[test]
-fn each_call_of_the_journal_may_fail(rt: HostRuntime) -> Result<(), NoMemory> {
-    let alloc = rt.alloc();
-    let mut faults: u64 = 0;
-    for call in 1u64..60 {
-        let mut folder = folder_of(alloc, FOLDER_OF_TWO, 0)?;
-        let disks = store(alloc, b"", call)?;
-        let first = run_over(&rt, alloc, "load s3://b/f", &mut folder, disks, NOTHING)?;
-        if first.status == Status::Ok {
-            continue;
-        }
-        faults = faults.saturating_add(1);
-        assert!(rt; first.status == Status::StoreFault, "call {call}");
-        assert!(rt; first.err.as_slice() == STORE_FAULT && first.out.is_empty(), "call {call}");
-        let second = run_over(&rt, alloc, "load s3://b/f", &mut folder, first.disks, NOTHING)?;
-        assert!(rt; second.status == Status::Ok, "after call {call}");
-        assert!(rt; count(second.out.as_slice(), b" LOAD_COMPLETED 3 0 0 0 0\n") == 1);
-    }
-    // Opening an empty store, and four calls for each of its six entries.
-    assert!(rt; faults >= 24);
-    Ok(())
-}
-
-#[test]
-fn a_sink_that_fails_is_a_write_fault(rt: HostRuntime) -> Result<(), NoMemory> {
-    let alloc = rt.alloc();
-    let fails = Failing { out: 1, ..NOTHING };
-    let outcome = run_files(&rt, alloc, "load s3://b/f", FOLDER_OF_TWO, fails)?;
-    assert!(rt; outcome.status == Status::WriteFault && outcome.err.as_slice() == WRITE_FAULT);
-    assert!(rt; outcome.out.as_slice() == b"00000000-0000-4000-8000-0000000".as_slice());
-    let fails = Failing { err: 1, ..NOTHING };
-    let outcome = run_files(&rt, alloc, "load b/f", FOLDER_OF_TWO, fails)?;
-    assert!(rt; outcome.status == Status::WriteFault && outcome.out.is_empty());
-    assert!(rt; outcome.err.as_slice() == b"bl: usage:".as_slice());
-    Ok(())
-}
-
-// A fault of the folder stops the load whatever it is asked; the next one goes on with it.
-#[test]
-fn each_call_of_the_folder_may_fail(rt: HostRuntime) -> Result<(), NoMemory> {
-    let alloc = rt.alloc();
-    let files: FileTable = &[("f/a.csv", b"~id\nv1\n"), ("f/b.csv", b"~id\nv2\n")];
-    let mut faults: u64 = 0;
-    let mut resumed: u64 = 0;
-    for call in 1u64..20 {
-        let words = "load s3://b/f --keep-going";
-        let first = run_files(&rt, alloc, words, files, Failing { folder: call, ..NOTHING })?;
-        if first.status == Status::Ok {
-            continue;
-        }
-        faults = faults.saturating_add(1);
-        assert!(rt; first.status == Status::JobNotCompleted && first.err.is_empty(), "call {call}");
-        let mut folder = folder_of(alloc, files, 0)?;
-        let words = "load s3://b/f --mode RESUME --keep-going";
-        let second = run_over(&rt, alloc, words, &mut folder, first.disks, NOTHING)?;
-        let expected = line(alloc, 2, "LOAD_COMPLETED 2 0 0 0 0")?;
-        if second.status == Status::Ok {
-            resumed = resumed.saturating_add(1);
-            assert!(rt; second.out.as_slice() == expected.as_slice(), "call {call}");
-        }
-    }
-    // The listing, and the files of the plan; then those of the load, which is gone on with.
-    assert!(rt; faults > resumed && resumed >= 2);
-    Ok(())
-}
-
-#[test]
-fn a_file_that_is_no_journal_is_a_bad_store(rt: HostRuntime) -> Result<(), NoMemory> {
-    let alloc = rt.alloc();
-    let table: [(&[u8], Status, &[u8]); 4] = [
-        (
-            b"hello, this is text!",
-            Status::BadStore(0),
-            b"bl: bad store at 0\n",
-        ),
-        (b"hello", Status::Ok, b""),
-        (
-            b"NEPTLOAD-JRNL-1\x01\x00\x00\x00\x01\xff\x00",
-            Status::BadStore(15),
-            b"bl: bad store at 15\n",
-        ),
-        (b"NEPTLOAD-JRNL-1\x00rest", Status::Ok, b""),
+fn the_words_decide_what_is_loaded(rt: HostRuntime) {
+    let table = [
+        ("load s3://b/x.csv --changes", Status::Ok, FIRST_LOAD, NONE),
+        ("load s3://b/x.csv", Status::Ok, ONE, NONE),
+        ("load s3://b/x.csv/", Status::Ok, ONE, NONE),
+        ("load b/x.csv", Status::Usage, NONE, USAGE),
+        ("load s3://b/../x.csv", Status::Usage, NONE, USAGE),
+        ("load s3://B/x.csv", Status::Usage, NONE, USAGE),
+        ("load s3://b/x.csv --change", Status::Usage, NONE, USAGE),
+        ("help", Status::Usage, NONE, USAGE),
+        ("load s3://b", Status::NotBuilt, NONE, NOT_BUILT),
+        ("load s3://b/y.csv", Status::NotBuilt, NONE, NOT_BUILT),
+        ("load s3://b/x.csv.gz", Status::NotBuilt, NONE, NOT_BUILT),
     ];
-    for (journal, status, err) in &table {
-        let mut folder = folder_of(alloc, PEOPLE, 0)?;
-        let disks = store(alloc, journal, 0)?;
-        let words = "load s3://b/people.csv";
-        let outcome = run_over(&rt, alloc, words, &mut folder, disks, NOTHING)?;
-        assert!(rt; outcome.status == *status, "status of {journal:?}");
-        assert!(rt; outcome.err.as_slice() == *err, "errors of {journal:?}");
-    }
-    Ok(())
-}
-
-// ---- stops
-
-// All bytes that reads see.
-fn content(disk: &mut MemoryDisk) -> Result<Text, Outside> {
-    let size = disk.size()?;
-    disk.read_at(0, u32::try_from(size).unwrap_or(u32::MAX))
-}
-
-// The store as a stop leaves it.
-fn stopped(disks: Disks<MemoryDisk>, fill: Fill) -> Result<Disks<MemoryDisk>, NoMemory> {
-    Ok(Disks {
-        journal: disks.journal.stopped(fill)?,
-        left: disks.left.stopped(fill)?,
-        right: disks.right.stopped(fill)?,
-    })
-}
-
-// A store with this journal, whose calls fail from this one on.
-fn failing_from(alloc: Global, journal: &Text, from: u64) -> Result<Disks<MemoryDisk>, NoMemory> {
-    let plan = Faults::of(List::new(alloc), from);
-    Ok(Disks {
-        journal: MemoryDisk::new(alloc, journal.copy(alloc)?, plan)?,
-        left: disk(alloc, b"", 0)?,
-        right: disk(alloc, b"", 0)?,
-    })
-}
-
-// The id of the second load over the salt 0.
-const SECOND: u128 = 0x0000_0000_0000_4000_8000_0000_0000_0002;
-
-// What the second load came to.
-#[derive(Clone, Copy, Debug, PartialEq, Eq)]
-struct Ended {
-    status: JobStatus,
-    counts: Counts,
-    sizes: (u64, u64, u64),
-    changes: u64,
-}
-
-fn open<L: Ledger>(
-    alloc: Global,
-    disks: Disks<MemoryDisk>,
-    blank: Blank,
-) -> Result<Option<Engine<MemoryDisk>>, NoMemory>
-    requires name { blank.name ≡ L.name }
-    requires parts { blank.parts ≡ L.parts }
-    requires some { 0 < blank.parts }
-{
-    let mut steps = Steps::<L>::new(blank);
-    match Engine::open_counted(alloc, 0, disks, &mut steps) {
-        Ok(engine) => Ok(Some(engine)),
-        Err((Trouble::NoMemory, _)) => Err(NoMemory),
-        Err(_) => Ok(None),
+    for (words, status, out, err) in table {
+        let outcome = run_over(&rt, rt.alloc(), words, PEOPLE, (0, 0, 0)).expect(&rt, "memory");
+        assert!(rt; outcome.status == status, "status of {words}");
+        assert!(rt; outcome.out.as_slice() == out, "output of {words}");
+        assert!(rt; outcome.err.as_slice() == err, "errors of {words}");
     }
 }
 
-fn all_changes(engine: &Engine<MemoryDisk>) -> u64 {
-    let mut count: u64 = 0;
-    for commit in engine.commits().as_slice() {
-        count = count.saturating_add(commit.changes.len() as u64);
-    }
-    count
-}
-
-// The store is opened again, and its turns are made. None where the second load isn't there.
-fn reopened<R: Threads + Sync>(
-    rt: &R,
-    alloc: Global,
-    folder: &mut MemoryFolder,
-    disks: Disks<MemoryDisk>,
-) -> Result<Option<Ended>, NoMemory> {
-    let Some(mut engine) = open::<Brand>(alloc, disks, Blank::new(1))? else {
-        return Ok(None);
-    };
-    let mut held = Held::none();
-    let clock = &mut FixedClock::new(0);
-    if drain(rt, alloc, &mut engine, folder, clock, &mut held, &OpenGate).is_err() {
-        return Ok(None);
-    }
-    match (engine.status(SECOND), engine.sizes()) {
-        (Ok(job), Ok(sizes)) => Ok(Some(Ended {
-            status: job.status,
-            counts: totals(&job.feeds),
-            sizes,
-            changes: all_changes(&engine),
-        })),
-        _ => Ok(None),
-    }
-}
-
-// Each call of the journal in turn is the last before a stop. Where the load was taken on it comes to
-// what it comes to without a stop.
 #[test]
-fn a_load_that_is_stopped_at_any_call_comes_to_the_same(rt: HostRuntime) -> Result<(), NoMemory> {
-    let alloc = rt.alloc();
-    let broken: FileTable = &[("f/a.csv", b"~id,age:Int\nv1,1\nv2,x\nv3,5\n"), ("f/b.csv", b"~id\nw1\n")];
-    let mended: FileTable = &[("f/a.csv", b"~id,age:Int\nv1,1\nv2,7\nv3,5\n"), ("f/b.csv", b"~id\nw1\n")];
-    let mut first = run_files(&rt, alloc, "load s3://b/f", broken, NOTHING)?;
-    let line_of_first = line(alloc, 1, "LOAD_FAILED 2 0 0 1 0")?;
-    assert!(rt; first.out.as_slice() == line_of_first.as_slice());
-    let Ok(journal) = content(&mut first.disks.journal) else {
-        return Err(NoMemory);
-    };
-    let whole = Ended {
-        status: JobStatus::Completed,
-        counts: Counts {
-            records: 4,
-            ..Counts::none()
-        },
-        sizes: (4, 0, 3),
-        changes: 7,
-    };
-    for fill in [Fill::Old, Fill::New, Fill::Ones] {
-        let mut there: u64 = 0;
-        for call in 1u64..60 {
-            let mut folder = folder_of(alloc, mended, 0)?;
-            let disks = failing_from(alloc, &journal, call)?;
-            let words = "load s3://b/f --mode RESUME";
-            let second = run_over(&rt, alloc, words, &mut folder, disks, NOTHING)?;
-            let disks = stopped(second.disks, fill)?;
-            let Some(ended) = reopened(&rt, alloc, &mut folder, disks)? else {
-                continue;
-            };
-            there = there.saturating_add(1);
-            assert!(rt; ended == whole, "stopped at call {call}: {ended:?}");
-        }
-        // Of the load's six entries five stand behind its Submit, with four calls each.
-        assert!(rt; there >= 20);
+fn a_fault_of_the_folder_is_a_failed_job(rt: HostRuntime) {
+    for call in [1, 2] {
+        let outcome = run_over(&rt, rt.alloc(), "load s3://b/x.csv", PEOPLE, (call, 0, 0)).expect(
+            &rt, "memory",
+        );
+        assert!(rt; outcome.status == Status::JobNotCompleted, "call {call}");
+        assert!(rt; outcome.out.as_slice() == FAILED, "call {call}");
+        assert!(rt; outcome.err.is_empty(), "call {call}");
     }
-    Ok(())
+}
+
+#[test]
+fn a_fault_of_a_sink_is_a_write_fault(rt: HostRuntime) {
+    let table = [
+        (
+            "load s3://b/x.csv",
+            (0, 1, 0),
+            b"00000000-0000-4000-8000-0000000".as_slice(),
+            WRITE_FAULT,
+        ),
+        ("load b/x.csv", (0, 0, 1), NONE, b"bl: usage:".as_slice()),
+    ];
+    for (words, fails, out, err) in table {
+        let outcome = run_over(&rt, rt.alloc(), words, PEOPLE, fails).expect(&rt, "memory");
+        assert!(rt; outcome.status == Status::WriteFault, "status of {words}");
+        assert!(rt; outcome.out.as_slice() == out, "output of {words}");
+        assert!(rt; outcome.err.as_slice() == err, "errors of {words}");
+    }
+}
+
+#[test]
+fn the_bytes_of_a_file_decide_what_is_loaded(rt: HostRuntime) {
+    let table = [
+        (b"".as_slice(), Status::Ok, NO_RECORD),
+        (b"\n\r\n", Status::Ok, NO_RECORD),
+        (b"~id\n", Status::Ok, NO_RECORD),
+        (b"~id,~label,name\n", Status::Ok, NO_RECORD),
+        (b"\xef\xbb\xbf~id\nv1\n", Status::Ok, ONE),
+        (b"~id\nv1\nv1\n", Status::Ok, ONE_OF_TWO),
+        (b"~id,name\nv1,Ann\nv1,Bob\n", Status::Ok, TWO),
+        (b"~id,~label\nv1,a\nv1,b\n", Status::Ok, TWO),
+        (b"~id,~label\nv1,a;b\nv1,b;a\n", Status::Ok, ONE_OF_TWO),
+        (b"~id,a,b\r\nv1,1,2\r\n\r\nv2,,\r\n", Status::Ok, TWO),
+        (b"~id\n v1 \nv1", Status::Ok, ONE_OF_TWO),
+        (b"~id,age:Int\nv1,1\nv1, +1 \n", Status::Ok, ONE_OF_TWO),
+        (b"age:BYTE,~id\n-128,v1\n", Status::Ok, ONE),
+        (
+            b"~id, a\\:b :Date[]\nv1,2020-02-29;2020-02-29T00:00\n",
+            Status::Ok,
+            ONE,
+        ),
+        (b"~id,age:Byte\na,127\nb,128\n", Status::NotBuilt, NONE),
+        (b"~id,when:Date\na,2021-02-29\n", Status::NotBuilt, NONE),
+        (b"~id,a:Int(single)\nv1,1\n", Status::NotBuilt, NONE),
+        (b"~id,a:Float\nv1,1\n", Status::NotBuilt, NONE),
+        (b"~id,~from,~to\ne1,v1,v1\n", Status::NotBuilt, NONE),
+        (b"name\nAnn\n", Status::NotBuilt, NONE),
+        (b"~id,a,a\nv1,1,2\n", Status::NotBuilt, NONE),
+        (b"~id,a\nv1\n", Status::NotBuilt, NONE),
+        (b"~id,a\nv1,\xff\n", Status::NotBuilt, NONE),
+        (b"~id,a\n,1\n", Status::NotBuilt, NONE),
+    ];
+    for (bytes, status, out) in table {
+        let outcome = run_over(&rt, rt.alloc(), "load s3://b/x.csv", bytes, (0, 0, 0)).expect(
+            &rt, "memory",
+        );
+        assert!(rt; outcome.status == status, "status of {bytes:?}");
+        assert!(rt; outcome.out.as_slice() == out, "output of {bytes:?}");
+    }
+}
+
+#[test]
+fn files_at_the_limits_are_loaded_and_no_larger_ones(rt: HostRuntime) {
+    let table = [
+        (
+            b"~id\n".as_slice(),
+            b"a\n".as_slice(),
+            1_000,
+            b"".as_slice(),
+            Status::Ok,
+            THOUSAND,
+        ),
+        (b"~id\n", b"a\n", 1_001, b"", Status::NotBuilt, NONE),
+        // 964 rows of 17 values are the first to reach 16,384 of them.
+        (b"~id,n:Byte[]\n", SEVENTEEN, 964, b"", Status::Ok, FULL),
+        (
+            b"~id,n:Byte[]\n",
+            SEVENTEEN,
+            965,
+            b"",
+            Status::NotBuilt,
+            NONE,
+        ),
+        (b"~id,t\na,", b"x", 1_048_575, b"\n", Status::Ok, ONE),
+        (b"~id,t\na,", b"x", 1_048_576, b"\n", Status::NotBuilt, NONE),
+        (b"~id,", b"n", 256, b"\nv1,1\n", Status::Ok, ONE),
+        (b"~id,", b"n", 257, b"\nv1,1\n", Status::NotBuilt, NONE),
+        (b"~id\n", b"v", 1_024, b"\n", Status::Ok, ONE),
+        (b"~id\n", b"v", 1_025, b"\n", Status::NotBuilt, NONE),
+    ];
+    for (head, part, times, tail, status, out) in table {
+        let mut bytes = repeated(rt.alloc(), head, part, times).expect(&rt, "memory");
+        bytes.extend(tail).expect(&rt, "memory");
+        let outcome = run_over(
+            &rt,
+            rt.alloc(),
+            "load s3://b/x.csv",
+            bytes.as_slice(),
+            (0, 0, 0),
+        )
+        .expect(&rt, "memory");
+        assert!(rt; outcome.status == status, "status at {times}");
+        assert!(rt; outcome.out.as_slice() == out, "output at {times}");
+    }
+}
+
+// The line of a change of the vertex `v1`, and a line end.
+fn line(
+    alloc: Global,
+    op: u64,
+    key: &str,
+    kind: &str,
+    value: &str,
+    last: &str,
+) -> Result<Text, NoMemory> {
+    let of = if key == "label" { "vl" } else { "vp" };
+    let line = format!(in alloc;
+        "{{\"commitTimestamp\":0,\"data\":{{\"id\":\"v1\",\"key\":\"{key}\",\"type\":\"{of}\",\"value\":{{\"dataType\":\"{kind}\",\"value\":{value}}}}},\"eventId\":{{\"commitNum\":1,\"opNum\":{op}}},{last}\"op\":\"ADD\"}}\n"
+    )?;
+    Text::copy_of(alloc, line.as_bytes())
+}
+
+// The output of a load of one vertex without a label, with these values at one key.
+fn lines_of(alloc: Global, key: &str, kind: &str, values: &[&str]) -> Result<Text, NoMemory> {
+    let mut text = line(alloc, 1, "label", "String", "\"vertex\"", "")?;
+    let mut op: u64 = 1;
+    for value in values {
+        op = op.saturating_add(1);
+        let last = if op == values.len() as u64 + 1 {
+            "\"isLastOp\":true,"
+        } else {
+            ""
+        };
+        text.extend(line(alloc, op, key, kind, value, last)?.as_slice())?;
+    }
+    text.extend(ONE)?;
+    Ok(text)
+}
+
+#[test]
+fn values_of_every_type_are_printed(rt: HostRuntime) {
+    let table: [(&[u8], &str, &str, &[&str]); 8] = [
+        (
+            b"~id,tags:String[]\nv1,a\\;b;;a;a\n",
+            "tags",
+            "String",
+            &["\"a;b\"", "\"a\""],
+        ),
+        (
+            b"~id,t:String\nv1,\"a,\"\"b\"\"\nc\"",
+            "t",
+            "String",
+            &["\"a,\\\"b\\\"\\nc\""],
+        ),
+        (
+            b"~id,ok:Bool[]\nv1,TRUE;yes\n",
+            "ok",
+            "Boolean",
+            &["true", "false"],
+        ),
+        (b"~id,n:Byte\nv1,-128\n", "n", "Byte", &["-128"]),
+        (b"~id,n:Short\nv1,+32767\n", "n", "Short", &["32767"]),
+        (b"~id,n:Int[]\nv1,7;;+7; 007 ;-0\n", "n", "Int", &["7", "0"]),
+        (
+            b"~id,n:Long\nv1,-9223372036854775808\n",
+            "n",
+            "Long",
+            &["-9223372036854775808"],
+        ),
+        (
+            b"~id,d:Date[]\nv1,2020-02-29T23:59;0000-01-01\n",
+            "d",
+            "Date",
+            &["\"2020-02-29T23:59:00Z\"", "\"0000-01-01T00:00:00Z\""],
+        ),
+    ];
+    for (bytes, key, kind, values) in &table {
+        let outcome = run_over(
+            &rt,
+            rt.alloc(),
+            "load s3://b/x.csv --changes",
+            bytes,
+            (0, 0, 0),
+        )
+        .expect(&rt, "memory");
+        let lines = lines_of(rt.alloc(), key, kind, values).expect(&rt, "memory");
+        assert!(rt;
+            outcome.out.as_slice() == lines.as_slice(),
+            "output of {bytes:?}"
+        );
+    }
+}
+
+const AT_A_SECOND: &[u8] =
+    b"{\"commitTimestamp\":1000,\"data\":{\"id\":\"v1\",\"key\":\"label\",\"type\":\"vl\",\"value\":{\"dataType\":\"String\",\"value\":\"person\"}},\"eventId\":{\"commitNum\":1,\"opNum\":1},\"op\":\"ADD\"}\n{\"commitTimestamp\":1000,\"data\":{\"id\":\"v1\",\"key\":\"name\",\"type\":\"vp\",\"value\":{\"dataType\":\"String\",\"value\":\"Ann\"}},\"eventId\":{\"commitNum\":1,\"opNum\":2},\"isLastOp\":true,\"op\":\"ADD\"}\n00112233-4455-4677-8899-000000000001 LOAD_COMPLETED 1 0 0 0 0\n";
+
+// The moment is that of one reading, and the id has the first ten bytes of the salt.
+#[test]
+fn a_load_reads_its_clock_once(rt: HostRuntime) {
+    let mut clock = TickingClock {
+        last: 0,
+        readings: 0,
+    };
+    let outcome = run_at(
+        &rt,
+        rt.alloc(),
+        "load s3://b/x.csv --changes",
+        PEOPLE,
+        (0, 0, 0),
+        &mut clock,
+        0x0011_2233_4455_6677_8899_aabb_ccdd_eeff,
+    )
+    .expect(&rt, "memory");
+    assert!(rt; outcome.out.as_slice() == AT_A_SECOND && clock.readings == 1);
+}
+
+const EIGHT: &[u8] = b"00000000-0000-4000-8000-000000000001 LOAD_COMPLETED 8 7 0 0 0\n";
+
+// So many records of 1,048,576 bytes, the most that one may have. Eight of them are 8,388,608.
+fn large_records(alloc: Global, times: usize) -> Result<Text, NoMemory> {
+    let mut record = repeated(alloc, b"a,", b"x", 1_048_575)?;
+    record.push(b'\n')?;
+    repeated(alloc, b"~id,t\n", record.as_slice(), times)
+}
+
+#[test]
+fn a_batch_ends_with_the_record_that_reaches_its_bytes(rt: HostRuntime) {
+    for (times, status, output) in [(8, Status::Ok, EIGHT), (9, Status::NotBuilt, NONE)] {
+        let file = large_records(rt.alloc(), times).expect(&rt, "memory");
+        let outcome = run_over(
+            &rt,
+            rt.alloc(),
+            "load s3://b/x.csv",
+            file.as_slice(),
+            (0, 0, 0),
+        )
+        .expect(&rt, "memory");
+        assert!(rt; outcome.status == status && outcome.out.as_slice() == output);
+    }
 }

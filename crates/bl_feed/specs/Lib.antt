@@ -1,5 +1,0 @@
-pub mod Words
-pub mod Bodies
-pub mod StatusBodies
-pub mod PagePieces
-pub mod LoadBodies
