@@ -1,0 +1,16 @@
+pub mod Tables
+pub mod BatchSizes
+pub mod Loads
+pub mod Frontiers
+pub mod Stops
+pub mod Ends
+pub mod Turns
+pub mod Chains
+pub mod WholeEnds
+pub mod Folders
+pub mod NextEntries
+pub mod MadeEntries
+pub mod Resumption
+pub mod UncutLoads
+pub mod GrownStores
+pub mod EarlierLoads
