@@ -1,0 +1,10 @@
+pub mod Answers
+pub mod Buffers
+pub mod Fields
+pub mod Heads
+pub mod Inputs
+pub mod Parts
+pub mod Readings
+pub mod Replies
+pub mod Requests
+pub mod Targets
