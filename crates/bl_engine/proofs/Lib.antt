@@ -1,0 +1,10 @@
+mod Replayed
+mod Found
+mod Committed
+mod Settling
+mod Looking
+mod Composed
+mod Added
+mod Appended
+mod Told
+mod Judged

@@ -1,0 +1,10 @@
+pub mod Images
+pub mod Engines
+pub mod Troubles
+pub mod Openings
+pub mod Calls
+pub mod Outcomes
+pub mod Attempts
+pub mod Findings
+pub mod Streams
+pub mod Appending
