@@ -27,6 +27,7 @@ mod whole_record;
 pub use conversion::convert;
 pub use file::{FILE_LIMIT, FileBytes, FileRefusal, read_file};
 pub use laws::a_record_has_one_row;
+pub use record_digest::digest_of_none;
 pub use row_reader::{RowReader, start};
 
 #[cfg(test)]

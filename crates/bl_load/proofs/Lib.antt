@@ -1,0 +1,15 @@
+pub mod RowLists
+pub mod Batches
+pub mod OpenLists
+pub mod SourceBytes
+pub mod Resumed
+pub mod FoundNames
+pub mod PreparedFiles
+pub mod Bounds
+pub mod Contents
+pub mod Findings
+pub mod Gathered
+pub mod Skipped
+pub mod PlannedNames
+pub mod Paired
+pub mod TestFeeds

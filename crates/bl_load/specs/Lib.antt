@@ -1,0 +1,9 @@
+pub mod SourceFiles
+pub mod Gathering
+pub mod OpenFiles
+pub mod Batching
+pub mod Resuming
+pub mod Finding
+pub mod Tasks
+pub mod Planning
+pub mod Prepares
