@@ -1,10 +1,12 @@
 mod Replayed
 mod Found
 mod Committed
-mod Settling
+pub mod Settling
 mod Looking
-mod Composed
+pub mod Composed
 mod Added
 mod Appended
 mod Told
 mod Judged
+pub mod Drained
+mod TestRows

@@ -31,12 +31,16 @@ Breaks of makes old new from = (to : State) × Fails makes from to × Answers of
 abbrev pub Settled : {D : Type 0} → Ghosts D → (World → Type 0) → View D → View D → State → Type 0
 Settled of Is old new from = (to : State) × Rests Is from to × Answers of old new from to
 
+-- Any number of calls lead from one state to the other: nothing was settled, or the store has grown.
+abbrev pub Reaches : (World → Entry → Type 0) → State → State → Type 0
+Reaches makes from to = (to ≡ from) ⊎ Grows makes from to
+
 -- Any number of calls: a crash leaves an image of a state on the way.
 pub record Drains {D : Type 0} (of : Ghosts D) (makes : World → Entry → Type 0) (old new : View D) (from : State) : Type 0 where
   pub to : State
-  pub grows : Grows makes from to
+  pub reaches : Reaches makes from to
   pub stays : Stays of new to
-  pub since : Since of old.journal.disk new.journal.disk (λ image. (between : State) × Grows makes from between × IsImageOf between image)
+  pub since : Since of old.journal.disk new.journal.disk (λ image. (between : State) × Reaches makes from between × IsImageOf between image)
   pub left : new.left ≡ old.left
   pub right : new.right ≡ old.right
 

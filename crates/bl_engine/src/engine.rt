@@ -1,10 +1,14 @@
 // The engine: its disks, and the world of its entries.
-ghost use Rattle.std.specs.Prelude.{◌≡◌, true};
+ghost use Rattle.std.specs.Prelude.{◌≡◌, ◌<◌, true, All, List as Items};
+ghost use Rattle.bl_outside.specs.Sound.{IsSound};
+ghost use Rattle.bl_entry.specs.declared.entry.Entry.{Entry};
 ghost use Rattle.bl_world.specs.Works.{work_of};
+ghost use Rattle.bl_world.specs.Worlds.{IsChanges, IsWorldOf};
+ghost use Rattle.bl_engine.specs.Engines.{IsAt};
 
 use bl_journal::Journal;
-use bl_outside::{Disk, Disks};
-use bl_world::{Work, World};
+use bl_outside::{Disk, Disks, List};
+use bl_world::{JobCommit, Work, World};
 use std::alloc::Global;
 use std::marker::Model;
 
@@ -54,16 +58,24 @@ impl<D: Disk> Model for Engine<D> {
 
 impl<D: Disk> Engine<D> {
     /// Whether it is ready. A closed engine is opened again by `ready`, and by each call that
-    /// takes `&mut self`.
+    /// takes `&mut self`. A ready engine's world is that of entries, which over a sound disk are
+    /// those that the journal has.
     pub fn is_ready(&self) -> bool
-        ensures { result ≡ self.now.ready }
+        ensures ready { result ≡ self.now.ready }
+        ensures leads { result ≡ true → (entries : Items Entry)
+            × IsWorldOf entries self.now.world }
+        ensures at { result ≡ true → IsSound ⟦<D as Disk>⟧ self.now.journal.disk
+            → (entries : Items Entry) × IsAt ⟦<D as Disk>⟧ self.now entries }
     {
         self.ready
     }
 
-    /// The number of entries; of a closed engine the one that it had when it was last ready.
+    /// The number of entries; of a closed engine the one that it had when it was last ready. Each
+    /// takes more than one byte of the journal.
     pub fn seq(&self) -> u64
-        ensures { result ≡ self.now.seq }
+        ensures seq { result ≡ self.now.seq }
+        ensures counted { self.now.ready ≡ true → result ≡ self.now.world.entries }
+        ensures room { self.now.ready ≡ true → result < self.now.journal.place }
     {
         self.seq
     }
@@ -74,6 +86,14 @@ impl<D: Disk> Engine<D> {
         ensures { result ≡ work_of self.now.world.kept.jobs }
     {
         self.world.next_work()
+    }
+
+    /// The commits of the change stream, from the first on.
+    pub fn commits(&self) -> &List<JobCommit>
+        ensures are { result.now ≡ self.now.world.commits }
+        ensures changes { All (λ commit. IsChanges commit.changes) self.now.world.commits }
+    {
+        self.world.commits()
     }
 
     /// Hands back the disks.
