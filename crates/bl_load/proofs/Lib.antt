@@ -13,3 +13,14 @@ pub mod Skipped
 pub mod PlannedNames
 pub mod Paired
 pub mod TestFeeds
+pub mod ToldTasks
+pub mod ToldTables
+pub mod ToldFiles
+pub mod PlannedTables
+pub mod NamedFeeds
+pub mod PreparedTurns
+pub mod SameJobs
+pub mod Committed
+pub mod Turned
+pub mod ResumedLoads
+pub mod Drains

@@ -7,3 +7,8 @@ pub mod Finding
 pub mod Tasks
 pub mod Planning
 pub mod Prepares
+pub mod Committing
+pub mod TurnFaults
+pub mod SameJobs
+pub mod Turns
+pub mod PreparedTurns

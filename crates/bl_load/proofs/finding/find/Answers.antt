@@ -1,9 +1,8 @@
-use Rattle.std.proofs.Common.{◌≡◌, ◌∙◌, ap, sym, subst, Some, Err}
+use Rattle.std.proofs.Common.{◌∙◌, ap, sym, subst, Some, Err}
 use Rattle.std.specs.Str.{IsUtf8}
 use Rattle.bl_rows.specs.File.{ReadsWhole}
 use Rattle.bl_rows.specs.declared.file.FileRefusal.TheVariants.{TooLarge}
 use Rattle.bl_chain.specs.Folders.{is_compressed}
-use Rattle.bl_load.specs.SourceFiles.{file_path}
 use Rattle.bl_load.proofs.Findings.{compressed_found, large_found}
 use Rattle.bl_load.proofs.SourceBytes.{path_utf8}
 use Rattle.bl_load.proofs.finding.find.Goals as goal

@@ -1,4 +1,4 @@
-use Rattle.std.proofs.Common.{◌∙◌, ap, subst, sym}
+use Rattle.std.proofs.Common.{subst, sym}
 use Rattle.bl_rows.specs.Contents.{contents, rows_of}
 use Rattle.bl_load.specs.Finding.{IsContentFound}
 use Rattle.bl_load.proofs.Contents.{content_found}

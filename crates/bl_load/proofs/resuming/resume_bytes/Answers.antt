@@ -1,5 +1,5 @@
-use Rattle.std.proofs.Common.{◌≡◌, [], ◌∷◌, ◌∙◌, List, sym, subst, refl}
-use Rattle.bl_rows.specs.Contents.{Fields, contents, rows_of}
+use Rattle.std.proofs.Common.{subst}
+use Rattle.bl_rows.specs.Contents.{contents, rows_of}
 use Rattle.bl_load.specs.Resuming.{IsContent}
 use Rattle.bl_load.proofs.Resumed.{empty_resumed, read_resumed, refused_other, some_resumed}
 use Rattle.bl_load.proofs.resuming.resume_bytes.Goals as goal

@@ -1,4 +1,4 @@
-use Rattle.std.proofs.Common.{◌≡◌, ◌∷◌, ◌∙◌, sym, ap, subst, refl, true, drop, length}
+use Rattle.std.proofs.Common.{◌∷◌, ◌∙◌, sym, subst, refl, drop}
 use Rattle.std.proofs.lemmas.Bool.{true≢false}
 use Rattle.bl_load.specs.Resuming.{Skips}
 use Rattle.bl_load.proofs.Resumed.{digest_other, few_other, kind_other, opened, read_other}

@@ -1,4 +1,4 @@
-use Rattle.std.proofs.Common.{◌≡◌, ◌≤◌, ◌+◌, ◌<◌, ◌^◌, ◌∙◌, All, sym, ap, subst, arith, length, take, min}
+use Rattle.std.proofs.Common.{◌≡◌, ◌≤◌, ◌+◌, ◌<◌, ◌^◌, ◌∙◌, All, sym, ap, subst, arith, length, take}
 use Rattle.std.proofs.lemmas.List.{length-take-le}
 use Rattle.std.proofs.lemmas.List.Elements.{All-take}
 use Rattle.std.proofs.lemmas.Result.{IfOk-weaker}
@@ -8,7 +8,7 @@ use Rattle.bl_job.specs.Batched.{AreValidRows}
 use Rattle.bl_chain.specs.BatchSizes.{no_rows}
 use Rattle.bl_chain.specs.NextEntries.{batch_from}
 use Rattle.bl_load.specs.Gathering.{most_field_bytes}
-use Rattle.bl_load.specs.Batching.{HandsOut, IsRefilled, TakesNext}
+use Rattle.bl_load.specs.Batching.{HandsOut, TakesNext}
 use Rattle.bl_load.proofs.OpenLists.{few_taken, takes_next}
 use Rattle.bl_load.proofs.open_file.OpenFile.next_rows.Goals as goal
 
