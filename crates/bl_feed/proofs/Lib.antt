@@ -1,0 +1,4 @@
+mod Dependencies
+mod Elements
+mod NoFloats
+mod PageTexts

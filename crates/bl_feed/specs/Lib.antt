@@ -1,0 +1,5 @@
+pub mod Words
+pub mod Bodies
+pub mod StatusBodies
+pub mod PagePieces
+pub mod LoadBodies
