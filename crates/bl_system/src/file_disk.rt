@@ -4,16 +4,20 @@ ghost use Rattle.std.specs.Prelude.{◌≤◌, IfOk, length};
 use bl_outside::{Disk, Outside, Text, counted};
 use std::alloc::Global;
 use std::fs::{File, Files, OpenFile, OpenOptions, create_dir_all, metadata};
-use std::io::{ErrorKind, Read, Seek, SeekFrom, Write};
+use std::io::{ErrorKind, Read, Seek, SeekFrom};
+use std::os::unix::fs::FileExt;
 use std::path::Path;
 
 /// One file of a store. Where it couldn't be opened, each of its calls fails.
 #[derive(Drop)]
-pub struct FileDisk<R: Files> {
+pub struct FileDisk {
     alloc: Global,
-    file: Option<R::File>,
+    file: Option<File>,
     faults: u64,
 }
+
+/// Up to so many bytes a place is read without asking for the size of the file.
+const SMALL_READ: u32 = 65_536;
 
 // Syncs a folder, which keeps the names of what lies in it. The empty path is where the program
 // runs.
@@ -45,7 +49,7 @@ fn make_store<R: Files>(system: &R, store: &str) -> Option<()> {
 }
 
 // Makes the store where it is missing, and opens the file.
-fn open_in<R: Files>(system: &R, store: &str, path: &str) -> Option<R::File> {
+fn open_in<R: Files<File = File>>(system: &R, store: &str, path: &str) -> Option<File> {
     make_store(system, store)?;
     let file = OpenOptions::new()
         .read(true)
@@ -57,14 +61,54 @@ fn open_in<R: Files>(system: &R, store: &str, path: &str) -> Option<R::File> {
     Some(file)
 }
 
-impl<R: Files> FileDisk<R> {
+impl FileDisk {
     /// Opens a file of the store, both made where they are missing.
-    pub fn open(system: &R, alloc: Global, store: &str, path: &str) -> FileDisk<R> {
+    pub fn open<R: Files<File = File>>(
+        system: &R,
+        alloc: Global,
+        store: &str,
+        path: &str,
+    ) -> FileDisk {
         FileDisk {
             alloc,
             file: open_in(system, store, path),
             faults: 0,
         }
+    }
+
+    /// The same of a file that nobody else has locked. It is locked then, until the disk is let go.
+    pub fn open_locked<R: Files<File = File>>(
+        system: &R,
+        alloc: Global,
+        store: &str,
+        path: &str,
+    ) -> FileDisk {
+        FileDisk {
+            alloc,
+            file: open_in(system, store, path).and_then(locked),
+            faults: 0,
+        }
+    }
+
+    /// A file that isn't opened.
+    pub fn closed(alloc: Global) -> FileDisk {
+        FileDisk {
+            alloc,
+            file: None,
+            faults: 0,
+        }
+    }
+
+    /// Whether it could be opened.
+    pub fn is_open(&self) -> bool {
+        self.file.is_some()
+    }
+}
+
+fn locked(file: File) -> Option<File> {
+    match file.try_lock() {
+        Ok(()) => Some(file),
+        Err(_) => None,
     }
 }
 
@@ -109,7 +153,7 @@ pub fn read_part<F: Read + Seek + OpenFile>(
     Ok(Text::from_vec(bytes))
 }
 
-impl<R: Files> Disk for FileDisk<R> {
+impl Disk for FileDisk {
     ghost use Rattle.std.specs.Prelude.{None};
 
     ghost seen = { λ _. None };
@@ -139,16 +183,16 @@ impl<R: Files> Disk for FileDisk<R> {
     }
 
     fn read_at(&mut self, at: u64, most: u32) -> Result<Text, Outside> {
-        let answer = match &mut self.file {
-            Some(file) => read_part(self.alloc, file, at, most),
+        let answer = match &self.file {
+            Some(file) => read_place(self.alloc, file, at, most),
             None => Err(Outside::Failed),
         };
         counted(&mut self.faults, answer)
     }
 
     fn write_at(&mut self, at: u64, bytes: &[u8]) -> Result<(), Outside> {
-        let answer = match &mut self.file {
-            Some(file) => write_part(file, at, bytes),
+        let answer = match &self.file {
+            Some(file) => write_place(file, at, bytes),
             None => Err(Outside::Failed),
         };
         counted(&mut self.faults, answer)
@@ -170,11 +214,61 @@ fn size_of<F: OpenFile>(file: &F) -> Result<u64, Outside> {
     }
 }
 
-fn write_part<F: Write + Seek>(file: &mut F, at: u64, bytes: &[u8]) -> Result<(), Outside> {
-    if file.seek(SeekFrom::Start(at)).is_err() || file.write_all(bytes).is_err() {
-        return Err(Outside::Failed);
+// How many bytes to make room for: no more than the file has, where many are asked for.
+fn room_for<F: OpenFile>(file: &F, at: u64, most: u32) -> Result<u32, Outside>
+    ensures { IfOk result (λ n. n ≤ most) }
+{
+    if most <= SMALL_READ {
+        return Ok(most);
     }
-    Ok(())
+    let left = size_of(file)?.saturating_sub(at);
+    Ok(left.min(most as u64) as u32)
+}
+
+// Fills the room with the bytes from the place on, as far as the file goes.
+pub fn fill_at<F: FileExt>(file: &F, room: &mut [u8], at: u64) -> Result<usize, Outside>
+    ensures { IfOk result (λ n. n ≤ length room.old) }
+{
+    let mut filled = 0;
+    for _ in 0..u64::MAX {
+        if filled == room.len() {
+            break;
+        }
+        match file.read_at(&mut room[filled..], at.wrapping_add(filled as u64)) {
+            Ok(0) => break,
+            Ok(n) => filled += n,
+            Err(e) if e.kind() == ErrorKind::Interrupted => {}
+            Err(_) => return Err(Outside::Failed),
+        }
+    }
+    Ok(filled)
+}
+
+// Up to so many bytes from the place on. Mostly this is one call of the system.
+fn read_place<F: FileExt + OpenFile>(
+    alloc: Global,
+    file: &F,
+    at: u64,
+    most: u32,
+) -> Result<Text, Outside>
+    ensures { IfOk result (λ bytes. length bytes ≤ most) }
+{
+    let count = room_for(file, at, most)?;
+    let mut bytes = Vec::new(alloc);
+    if bytes.resize(count as usize, 0).is_err() {
+        return Err(Outside::NoMemory);
+    }
+    let filled = fill_at(file, &mut bytes, at)?;
+    bytes.truncate(filled);
+    Ok(Text::from_vec(bytes))
+}
+
+// Mostly this is one call of the system.
+fn write_place<F: FileExt>(file: &F, at: u64, bytes: &[u8]) -> Result<(), Outside> {
+    match file.write_all_at(bytes, at) {
+        Ok(()) => Ok(()),
+        Err(_) => Err(Outside::Failed),
+    }
 }
 
 fn sync_file<F: OpenFile>(file: &F) -> Result<(), Outside> {

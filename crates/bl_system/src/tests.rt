@@ -213,7 +213,7 @@ fn a_disk_keeps_its_bytes_and_a_folder_reads_them(rt: HostRuntime) {
     let root = fresh_root(rt).expect(&rt, "memory");
     let store = below(alloc, root.as_str(), "stores/first").expect(&rt, "memory");
     let path = below(alloc, store.as_str(), "journal.bl").expect(&rt, "memory");
-    let mut disk: FileDisk<HostRuntime> = FileDisk::open(&rt, alloc, store.as_str(), path.as_str());
+    let mut disk = FileDisk::open(&rt, alloc, store.as_str(), path.as_str());
     assert!(rt; keeps(&mut disk));
     let there = Text::of_str(alloc, "stores/first/journal.bl").expect(&rt, "memory");
     let missing = Text::of_str(alloc, "stores/first/none").expect(&rt, "memory");
@@ -221,5 +221,42 @@ fn a_disk_keeps_its_bytes_and_a_folder_reads_them(rt: HostRuntime) {
     assert!(rt; lists_one_file(&mut folder, &there));
     assert!(rt; reads_the_front(&mut folder, &there));
     assert!(rt; !lists_one_file(&mut folder, &missing));
+    assert!(rt; remove_dir_all(&rt, root.as_str()).is_ok());
+}
+
+// How many of the calls of a disk fail.
+fn failures<D: Disk>(disk: &mut D) -> u32
+    requires { D.honest disk.old → ⊥ }
+{
+    let mut count: u32 = 0;
+    if disk.size() == Err(Outside::Failed) {
+        count = count.saturating_add(1);
+    }
+    if disk.read_at(0, 1) == Err(Outside::Failed) {
+        count = count.saturating_add(1);
+    }
+    if disk.write_at(0, b"x") == Err(Outside::Failed) {
+        count = count.saturating_add(1);
+    }
+    if disk.sync() == Err(Outside::Failed) {
+        count = count.saturating_add(1);
+    }
+    count
+}
+
+#[test]
+fn a_locked_file_is_a_disk_that_fails(rt: HostRuntime) {
+    let alloc = rt.alloc();
+    let root = fresh_root(rt).expect(&rt, "memory");
+    let path = below(alloc, root.as_str(), "journal.bl").expect(&rt, "memory");
+    let mut first = FileDisk::open_locked(&rt, alloc, root.as_str(), path.as_str());
+    assert!(rt; first.is_open() && keeps(&mut first));
+    let mut second = FileDisk::open_locked(&rt, alloc, root.as_str(), path.as_str());
+    assert!(rt; !second.is_open());
+    assert_eq!(rt; failures(&mut second), 4);
+    assert_eq!(rt; failures(&mut FileDisk::closed(alloc)), 4);
+    drop(first);
+    let third = FileDisk::open_locked(&rt, alloc, root.as_str(), path.as_str());
+    assert!(rt; third.is_open());
     assert!(rt; remove_dir_all(&rt, root.as_str()).is_ok());
 }
