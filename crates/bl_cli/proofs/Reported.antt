@@ -1,27 +1,105 @@
--- What is left on the output, whatever became of the line on the error output.
-use Rattle.std.specs.Prelude.{◌≡◌, ◌⊎◌, ℕ, List, refl}
+-- What a run comes to, whatever became of the line on the error output.
+use Rattle.std.specs.Prelude.{◌≡◌, ◌⊎◌, ℕ, true, is_some, List, None, Some, Result, Ok, Err, refl}
 use Rattle.std.specs.declared.option.Option.{Option}
-use Rattle.std.proofs.Common.{inl, inr, rules, subst, sym}
+use Rattle.std.proofs.Common.{inl, inr, ⊎_elim, subst, sym, ap, ◌∙◌}
+use Rattle.bl_outside.specs.Counts.{Rose}
 use Rattle.bl_outside.specs.Folders.{Files}
+use Rattle.bl_outside.specs.declared.disk.Disk.{Ghosts}
+use Rattle.bl_outside.specs.declared.disks.Disks.{Disks}
+use Rattle.bl_outside.proofs.Told.{content_told}
+use Rattle.bl_queue.specs.declared.job.Job.{Job}
+use Rattle.bl_engine.specs.Images.{HasEntries, IsLeft}
+use Rattle.bl_engine.specs.Openings.{IsTold, Judges, NeverBad}
 use Rattle.bl_cli.specs.declared.status.Status.{Status}
-use Rattle.bl_cli.specs.declared.status.Status.TheVariants.{Ok, JobNotCompleted, Usage, WriteFault, NoMemory, NotBuilt}
-use Rattle.bl_cli.specs.Runs.{Adds, EndsInFront, HasReported, LeavesFront, OfCommand, Reports, Written}
+use Rattle.bl_cli.specs.declared.status.Status.TheVariants as status
+use Rattle.bl_cli.specs.Printing.{Adds, AddsFront, Written}
+use Rattle.bl_cli.specs.Runs.{Answers, HasLine, HasReported, IsCalm, IsCalmEnd, IsDone, IsQuiet, IsStatusOf, IsUnasked, IsUsedUp, MayHaveBegun, OfWords, PrintsJob, Reports}
 use Rattle.bl_cli.specs.Statuses.{line_of}
+use Rattle.bl_cli.specs.Words.{AskForNothing}
 
-pub front_of : (files : Option Files) (words : List (List ℕ)) (salt moment : ℕ) (old new err err' : Option (List ℕ)) (before now : ℕ) (status result : Status) →
-    Reports err err' before now status result → result ≡ WriteFault →
-    ((status ≡ Usage) ⊎ (status ≡ NotBuilt) ⊎ (status ≡ NoMemory) → new ≡ old) →
-    (status ≡ WriteFault → OfCommand words (λ command. LeavesFront files command salt moment old new)) → EndsInFront files words salt moment old new
-front_of files words salt moment old new err err' before now Ok result (inl same) fault quiet front = absurd (cc (same.0, fault))
-front_of files words salt moment old new err err' before now Ok result (inr failed) fault quiet front = absurd (failed.2)
-front_of files words salt moment old new err err' before now JobNotCompleted result (inl same) fault quiet front = absurd (cc (same.0, fault))
-front_of files words salt moment old new err err' before now JobNotCompleted result (inr failed) fault quiet front = absurd (failed.2)
-front_of files words salt moment old new err err' before now Usage result reports fault quiet front = inl (quiet (search rules))
-front_of files words salt moment old new err err' before now NotBuilt result reports fault quiet front = inl (quiet (search rules))
-front_of files words salt moment old new err err' before now NoMemory result reports fault quiet front = inl (quiet (search rules))
-front_of files words salt moment old new err err' before now WriteFault result reports fault quiet front = inr (front refl)
+-- a status with a line printed nothing, or may have begun to
+quiet_or_begun : (it : Status) → HasLine it → IsQuiet it ⊎ MayHaveBegun it
+quiet_or_begun status.Ok has = absurd has
+quiet_or_begun status.JobNotCompleted has = absurd has
+quiet_or_begun status.Usage has = inl tt
+quiet_or_begun status.WriteFault has = inr tt
+quiet_or_begun status.StoreFault has = inl tt
+quiet_or_begun (status.BadStore place) has = inl tt
+quiet_or_begun status.NoMemory has = inr tt
+quiet_or_begun status.JournalFull has = inl tt
+quiet_or_begun status.NumbersUsedUp has = inl tt
 
 -- the line of the result, or a front of another one
-pub has_reported : (err err' : Option (List ℕ)) (before now : ℕ) (status result : Status) → Reports err err' before now status result → HasReported err err' before now result
-has_reported err err' before now status result (inl same) = inl (subst (λ s. Written err err' (Adds (line_of s))) (sym same.0) same.1)
-has_reported err err' before now status result (inr failed) = inr (failed.0, failed.1, (status, failed.3))
+pub has_reported : (err err' : Option (List ℕ)) (before now : ℕ) (it result : Status) → Reports err err' before now it result → HasReported err err' before now result
+has_reported err err' before now it result (inl same) = inl (subst (λ s. Written err err' (Adds (line_of s))) (sym same.0) same.1)
+has_reported err err' before now it result (inr failed) = inr (failed.0, failed.1, (it, failed.3))
+
+module _ {D : Type 0} (of : Ghosts D) (files : Option Files) (salt : ℕ) (words : List (List ℕ)) (old new : Disks D) (before after : Option (List ℕ)) (was now : ℕ) (it result : Status) (err err' : Option (List ℕ)) (count count' : ℕ)
+    (answers : Answers of files salt words old new before after was now it) (reports : Reports err err' count count' it result) where
+  -- a word of statuses that a write fault hasn't
+  by_status : (P : Status → Type 0) (Q : Type 0) → (P status.WriteFault → Q) → (P it → Q) → P result → Q
+  by_status P Q faulted same holds =
+      ⊎_elim (λ (is : (result ≡ it) × Written err err' (Adds (line_of it))). same (subst P is.0 holds))
+      (λ (is : (result ≡ status.WriteFault) × Rose count count' × HasLine it × Written err err' (AddsFront (line_of it))). faulted (subst P is.0 holds)) reports
+
+  pub run_done : IsDone result → OfWords words (λ load. (job : Job) × IsStatusOf job.status result × PrintsJob Adds of salt load old new before after job)
+  run_done done =
+      ⊎_elim
+      (λ (is : (result ≡ it) × Written err err' (Adds (line_of it))). subst (λ s. OfWords words (λ load. (job : Job) × IsStatusOf job.status s × PrintsJob Adds of salt load old new before after job)) (sym is.0) (answers.done (subst IsDone is.0 done)))
+      (λ (is : (result ≡ status.WriteFault) × Rose count count' × HasLine it × Written err err' (AddsFront (line_of it))). absurd (subst IsDone is.0 done)) reports
+
+  pub run_begun : MayHaveBegun result → (after ≡ before) ⊎ OfWords words (λ load. (job : Job) × PrintsJob AddsFront of salt load old new before after job)
+  run_begun begun =
+      ⊎_elim
+      (λ (is : (result ≡ it) × Written err err' (Adds (line_of it))). answers.begun (subst MayHaveBegun is.0 begun))
+      (λ (is : (result ≡ status.WriteFault) × Rose count count' × HasLine it × Written err err' (AddsFront (line_of it))). ⊎_elim (λ quiet. inl (answers.quiet quiet)) answers.begun (quiet_or_begun it is.2)) reports
+
+  pub run_quiet : IsQuiet result → after ≡ before
+  run_quiet quiet = by_status IsQuiet (after ≡ before) (λ none. absurd none) answers.quiet quiet
+
+  pub run_usage : result ≡ status.Usage → AskForNothing words
+  run_usage is = by_status (λ s. s ≡ status.Usage) (AskForNothing words) (λ none. absurd (cc (none))) answers.usage is
+
+  pub run_write : result ≡ status.WriteFault → Rose was now ⊎ Rose count count'
+  run_write fault =
+      ⊎_elim (λ (is : (result ≡ it) × Written err err' (Adds (line_of it))). inl (answers.write_fault (sym is.0 ∙ fault)))
+      (λ (is : (result ≡ status.WriteFault) × Rose count count' × HasLine it × Written err err' (AddsFront (line_of it))). inr is.1) reports
+
+  pub run_store : result ≡ status.StoreFault → Rose (of.faults old.journal) (of.faults new.journal)
+  run_store is = by_status (λ s. s ≡ status.StoreFault) (Rose (of.faults old.journal) (of.faults new.journal)) (λ none. absurd (cc (none))) answers.store_fault is
+
+  pub run_bad : (place : ℕ) → result ≡ status.BadStore place → IsTold of old.journal → Judges (of.seen old.journal) (Err place)
+  run_bad place is = by_status (λ s. s ≡ status.BadStore place) (IsTold of old.journal → Judges (of.seen old.journal) (Err place)) (λ none. absurd (cc (none))) (answers.bad_store place) is
+
+  pub run_used : result ≡ status.NumbersUsedUp → IsUsedUp of old
+  run_used is = by_status (λ s. s ≡ status.NumbersUsedUp) (IsUsedUp of old) (λ none. absurd (cc (none))) answers.used_up is
+
+  -- a store that this program left is never bad
+  never : NeverBad → ((c : List ℕ) → of.honest old.journal → of.seen old.journal ≡ Some c → of.may_leave old.journal c) → IsLeft of old → (place : ℕ) → ¬ (it ≡ status.BadStore place)
+  never law image left place is =
+      let told = content_told (of.seen old.journal) left.sound.told in
+      let has = left.each told.0 (image told.0 left.sound.honest told.1) in
+      law told.0 has.0 place has.1 (subst (λ seen. Judges seen (Err place)) told.1 (answers.bad_store place is (inl left.sound)))
+
+  calm_end : NeverBad → ((c : List ℕ) → of.honest old.journal → of.seen old.journal ≡ Some c → of.may_leave old.journal c) → IsLeft of old
+      → IsCalm (of.faults old.journal) (of.faults new.journal) was now count count' → (s : Status) → it ≡ s → IsCalmEnd s ⊎ AskForNothing words
+  calm_end law image left calm status.Ok is = inl tt
+  calm_end law image left calm status.JobNotCompleted is = inl tt
+  calm_end law image left calm status.Usage is = inr (answers.usage is)
+  calm_end law image left calm status.WriteFault is = absurd (calm.out_calm (answers.write_fault is))
+  calm_end law image left calm status.StoreFault is = absurd (calm.disk_calm (answers.store_fault is))
+  calm_end law image left calm (status.BadStore place) is = absurd (never law image left place is)
+  calm_end law image left calm status.NoMemory is = inl tt
+  calm_end law image left calm status.JournalFull is = inl tt
+  calm_end law image left calm status.NumbersUsedUp is = inl tt
+
+  pub run_complete : NeverBad → ((c : List ℕ) → of.honest old.journal → of.seen old.journal ≡ Some c → of.may_leave old.journal c) → IsLeft of old
+      → IsCalm (of.faults old.journal) (of.faults new.journal) was now count count' → IsCalmEnd result ⊎ AskForNothing words
+  run_complete law image left calm =
+      ⊎_elim (λ (is : (result ≡ it) × Written err err' (Adds (line_of it))). subst (λ s. IsCalmEnd s ⊎ AskForNothing words) (sym is.0) (calm_end law image left calm it refl))
+      (λ (is : (result ≡ status.WriteFault) × Rose count count' × HasLine it × Written err err' (AddsFront (line_of it))). absurd (calm.err_calm is.1)) reports
+
+  pub run_unasked : AskForNothing words → IsCalm (of.faults old.journal) (of.faults new.journal) was now count count' → IsUnasked result
+  run_unasked nothing calm =
+      ⊎_elim (λ (is : (result ≡ it) × Written err err' (Adds (line_of it))). subst IsUnasked (sym is.0) (answers.unasked nothing))
+      (λ (is : (result ≡ status.WriteFault) × Rose count count' × HasLine it × Written err err' (AddsFront (line_of it))). absurd (calm.err_calm is.1)) reports

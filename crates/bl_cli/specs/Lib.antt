@@ -1,9 +1,11 @@
 pub mod Words
-pub mod LoadIds
-pub mod Batches
-pub mod Loads
-pub mod Printable
-pub mod Taking
-pub mod Outputs
+pub mod Options
 pub mod Statuses
+pub mod JobTexts
+pub mod Outputs
+pub mod Printing
+pub mod LoadFaults
+pub mod Stores
+pub mod Tags
+pub mod Loads
 pub mod Runs

@@ -1,105 +1,69 @@
--- What a load of one vertex file comes to: one fold over the records of the file.
-use Rattle.std.specs.Prelude.{◌≡◌, ◌≤◌, ℕ, ◌+◌, nat_eq, Bool, true, false, not, ◌&&◌, ◌||◌, if◌then◌else◌, codes, List, [], ◌∷◌, ◌++◌, length, None, Some}
+-- What a load comes to.
+use Rattle.std.specs.Prelude.{◌≡◌, ◌+◌, ℕ, true, List, Result, Ok, Err, IfOk, IfErr, OnOk, IsErrOf}
 use Rattle.std.specs.declared.option.Option.{Option}
-use Rattle.std.specs.Option.{option_map, option_and_then}
-use Rattle.std.specs.List.{ends_with, list_all}
-use Rattle.std.specs.FinMap.{get}
+use Rattle.std.specs.List.{Contains}
 use Rattle.bl_outside.specs.Folders.{Files}
-use Rattle.bl_value.specs.declared.column.Columns.{Columns}
-use Rattle.bl_value.specs.declared.column.ColumnUse.{ColumnUse}
-use Rattle.bl_value.specs.declared.column.ColumnUse.TheVariants.{Id, Label, From, To, Property}
-use Rattle.bl_value.specs.declared.column.Side.{Side}
-use Rattle.bl_value.specs.declared.column.Side.TheVariants.{Vertex, Edge}
-use Rattle.bl_value.specs.declared.row.Row.{Row}
-use Rattle.bl_graph.specs.Graph.{empty}
-use Rattle.bl_graph.specs.Replay.{after}
-use Rattle.bl_graph.specs.Admission.{admit}
-use Rattle.bl_graph.specs.declared.verdict.Verdict.{Verdict}
-use Rattle.bl_graph.specs.declared.verdict.Verdict.TheVariants.{Changes, Duplicate, Refused}
-use Rattle.bl_header.specs.Headers.{IsMeaning}
-use Rattle.bl_rows.specs.Contents.{Fields, contents}
-use Rattle.bl_rows.specs.File.{IsSmall}
-use Rattle.bl_rows.specs.FirstFaults.{record_row}
-use Rattle.bl_cli.specs.declared.loading.Loaded.{Loaded}
-use Rattle.bl_cli.specs.declared.loading.Taken.{Taken}
-use Rattle.bl_cli.specs.Batches.{is_full, nothing_yet, with_record}
+use Rattle.bl_outside.specs.declared.disk.Disk.{Ghosts}
+use Rattle.bl_files.specs.declared.load_request.LoadRequest.{LoadRequest}
+use Rattle.bl_queue.specs.declared.job.Job.{Job}
+use Rattle.bl_queue.specs.Statuses.{has_ended}
+use Rattle.bl_entry.specs.declared.entry.Entry.{Entry}
+use Rattle.bl_world.specs.LoadIds.{load_number}
+use Rattle.bl_world.specs.Works.{work_of}
+use Rattle.bl_world.specs.Worlds.{World}
+use Rattle.bl_world.specs.declared.work.Work.TheVariants.{Idle as no_work}
+use Rattle.bl_engine.specs.Calls.{Handles}
+use Rattle.bl_engine.specs.Engines.{IsAt, View}
+use Rattle.bl_world.specs.States.{at_rest}
+use Rattle.bl_load.specs.Turns.{DrainsOver, IsDrained}
+use Rattle.bl_cli.specs.declared.load_fault.LoadFault.{LoadFault}
+use Rattle.bl_cli.specs.declared.load_fault.LoadFault.TheVariants as fault
+use Rattle.bl_cli.specs.LoadFaults.{IsOfStore, IsOfTurns, trouble_of}
+use Rattle.bl_cli.specs.Stores.{OfFiles}
+use Rattle.bl_load.specs.SameJobs.{HasSameJobs}
+use Rattle.bl_cli.specs.Tags.{HasTaken}
 
--- before the first row
-abbrev pub nothing : Loaded
-nothing = record { graph = empty; changes = []; records = 0; duplicates = 0 }
+-- ---- the job
 
--- what a verdict adds to a load; a refused row ends it
-abbrev pub with_verdict : Loaded → Verdict → Option Loaded
-with_verdict loaded (Changes changes) =
-    Some (record { graph = after loaded.graph changes; changes = loaded.changes ++ changes; records = loaded.records + 1; duplicates = loaded.duplicates })
-with_verdict loaded Duplicate =
-    Some (record { graph = loaded.graph; changes = loaded.changes; records = loaded.records + 1; duplicates = loaded.duplicates + 1 })
-with_verdict loaded (Refused code column) = None
+-- In this world the job is the one that was submitted behind an earlier world. It has ended, and
+-- nothing is to be done.
+pub record IsLoadOf (salt : ℕ) (wanted : LoadRequest) (before world : World) (it : Job) : Type 0 where
+  pub kept : Contains world.kept.jobs it
+  pub number : it.number ≡ before.kept.last + 1
+  pub id : it.id ≡ load_number salt it.number
+  pub request : it.request ≡ wanted
+  pub ended : has_ended it.status ≡ true
+  pub idle : work_of world.kept.jobs ≡ no_work
 
--- one row more, admitted into the graph so far; single values are not updated
-abbrev pub with_row : Loaded → Row → Option Loaded
-with_row loaded row = with_verdict loaded (admit loaded.graph false row)
+-- ---- what is done to an engine that is ready
 
-abbrev pub nothing_taken : Taken
-nothing_taken = record { loaded = nothing; batch = nothing_yet }
+-- Turns were made until nothing is to be done, or one was not made.
+pub record DrainsAll {D : Type 0} (of : Ghosts D) (files : Option Files) (old new : View D) (result : Result (Unit {0}) LoadFault) : Type 0 where
+  pub idle : OnOk result (IsDrained new × HasSameJobs old.world.kept new.world.kept)
+  pub over : OfFiles files (λ told. (entries : List Entry) → IsAt of old entries → DrainsOver of told old new (at_rest entries))
+  pub handles : Handles of old new (trouble_of result)
+  pub fault : IfErr result IsOfTurns
 
--- one record more, where the batch has room for it and its row is admitted
-abbrev pub take_one : Columns → Taken → Fields → Option Taken
-take_one columns taken fields =
-    if is_full taken.batch then None
-    else option_map (λ loaded. record { loaded = loaded; batch = with_record taken.batch (record_row columns fields) fields }) (with_row taken.loaded (record_row columns fields))
+-- A load was submitted, or it was not.
+pub record Submits {D : Type 0} (of : Ghosts D) (salt : ℕ) (request : LoadRequest) (old new : View D) (result : Result ℕ LoadFault) : Type 0 where
+  pub taken : IfOk result (λ id. (new.ready ≡ true) × HasTaken salt request old.world.kept new.world.kept id)
+  pub over : (files : Files) (entries : List Entry) → IsAt of old entries → DrainsOver of files old new (at_rest entries)
+  pub handles : Handles of old new (trouble_of result)
+  pub used_up : IsErrOf result fault.NumbersUsedUp → old.world.kept.last ≡ 4294967295
+  pub fault : IfErr result IsOfStore
 
--- the records, one after another
-abbrev pub take_all : Columns → Taken → List Fields → Option Taken
-take_all columns taken [] = Some taken
-take_all columns taken (fields ∷ records) = option_and_then (λ more. take_all columns more records) (take_one columns taken fields)
+-- A load was made, or it was not.
+pub record Makes {D : Type 0} (of : Ghosts D) (files : Option Files) (salt : ℕ) (request : LoadRequest) (old new : View D) (result : Result Job LoadFault) : Type 0 where
+  pub ended : IfOk result (λ it. (new.ready ≡ true) × IsLoadOf salt request old.world new.world it)
+  pub drains : OfFiles files (λ told. (entries : List Entry) → IsAt of old entries → DrainsOver of told old new (at_rest entries))
+  pub handles : Handles of old new (trouble_of result)
+  -- the last number of a load was given
+  pub used_up : IsErrOf result fault.NumbersUsedUp → old.world.kept.last ≡ 4294967295
+  pub fault : IfErr result IsOfStore
 
--- the load of the records behind a header: all of them in one batch, none refused
-abbrev pub records_load : Columns → List Fields → Option Loaded
-records_load columns records = option_map (λ taken. taken.loaded) (take_all columns nothing_taken records)
-
--- any number of values
-abbrev pub is_set : ColumnUse → Bool
-is_set (Property column) = not column.single
-is_set Id = true
-is_set Label = true
-is_set From = true
-is_set To = true
-
-abbrev pub is_vertex : Side → Bool
-is_vertex Vertex = true
-is_vertex Edge = false
-
--- vertices, and no single property
-abbrev pub are_sets : Columns → Bool
-are_sets columns = is_vertex columns.side && list_all is_set columns.uses
-
-abbrev pub if_sets : Columns → Option Columns
-if_sets columns = if are_sets columns then Some columns else None
-
--- the header of a file that is loaded so far
-pub record IsSetHeader (header : Fields) (columns : Columns) : Type 0 where
-  pub meaning : IsMeaning header columns
-  pub sets : are_sets columns ≡ true
-
--- the load of a file's records, the header first; a file without any has nothing
-abbrev pub IsContentLoad : List Fields → Loaded → Type 0
-IsContentLoad [] loaded = loaded ≡ nothing
-IsContentLoad (header ∷ records) loaded = (columns : Columns) × IsSetHeader header columns × (records_load columns records ≡ Some loaded)
-
--- a name that says that the file is compressed
-abbrev pub is_compressed : List ℕ → Bool
-is_compressed path = ends_with nat_eq path (codes ".gz") || ends_with nat_eq path (codes ".bz2")
-
--- There is a file at the path, it is one that is loaded so far, and this is its load.
-pub record IsFileLoad (files : Files) (path : List ℕ) (loaded : Loaded) : Type 0 where
-  pub plain : is_compressed path ≡ false
-  pub bytes : List ℕ
-  pub there : get files path ≡ Some bytes
-  pub small : IsSmall bytes
-  pub load : IsContentLoad (contents bytes) loaded
-
--- the one thing of which this holds, or none where it holds of none
-abbrev pub IsThe : {T : Type 0} → (T → Type 0) → Option T → Type 0
-IsThe P (Some x) = P x
-IsThe {T} P None = (x : T) → ¬ (P x)
+-- The kept job of this id, or the store can't tell.
+pub record FindsLoad {D : Type 0} (of : Ghosts D) (id : ℕ) (old new : View D) (result : Result Job LoadFault) : Type 0 where
+  pub found : IfOk result (λ it. Contains old.world.kept.jobs it × (it.id ≡ id))
+  pub same : new ≡ old
+  pub handles : Handles of old new (trouble_of result)
+  pub fault : IfErr result IsOfTurns

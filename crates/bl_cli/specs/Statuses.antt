@@ -1,20 +1,42 @@
 -- Exit statuses and the lines on the error output.
-use Rattle.std.specs.Prelude.{ℕ, codes, List, [], ◌∷◌, ◌++◌}
+use Rattle.std.specs.Prelude.{ℕ, codes, decimal, List, [], ◌∷◌, ◌++◌}
 use Rattle.bl_cli.specs.declared.status.Status.{Status}
-use Rattle.bl_cli.specs.declared.status.Status.TheVariants.{Ok, JobNotCompleted, Usage, WriteFault, NoMemory, NotBuilt}
+use Rattle.bl_cli.specs.declared.status.Status.TheVariants.{Ok, JobNotCompleted, Usage, WriteFault, StoreFault, BadStore, NoMemory, JournalFull, NumbersUsedUp}
 
 abbrev pub code_of : Status → ℕ
 code_of Ok = 0
 code_of JobNotCompleted = 1
 code_of Usage = 2
 code_of WriteFault = 4
+code_of StoreFault = 5
+code_of (BadStore place) = 6
 code_of NoMemory = 7
-code_of NotBuilt = 20
+code_of JournalFull = 10
+code_of NumbersUsedUp = 11
 
+-- what every line of the status begins with; of all but one it is the whole line
+abbrev pub plain_line : Status → List ℕ
+plain_line Ok = []
+plain_line JobNotCompleted = []
+plain_line Usage = codes "bl: usage: see help" ++ 10 ∷ []
+plain_line WriteFault = codes "bl: write fault" ++ 10 ∷ []
+plain_line StoreFault = codes "bl: store fault" ++ 10 ∷ []
+plain_line (BadStore place) = codes "bl: bad store at "
+plain_line NoMemory = codes "bl: no memory" ++ 10 ∷ []
+plain_line JournalFull = codes "bl: journal full" ++ 10 ∷ []
+plain_line NumbersUsedUp = codes "bl: no load number is left" ++ 10 ∷ []
+
+abbrev pub place_behind : ℕ → List ℕ
+place_behind place = decimal place ++ 10 ∷ []
+
+-- the line of a status on the error output; the first two have none
 abbrev pub line_of : Status → List ℕ
 line_of Ok = []
 line_of JobNotCompleted = []
 line_of Usage = codes "bl: usage: see help" ++ 10 ∷ []
 line_of WriteFault = codes "bl: write fault" ++ 10 ∷ []
+line_of StoreFault = codes "bl: store fault" ++ 10 ∷ []
+line_of (BadStore place) = codes "bl: bad store at " ++ place_behind place
 line_of NoMemory = codes "bl: no memory" ++ 10 ∷ []
-line_of NotBuilt = codes "bl: not built yet" ++ 10 ∷ []
+line_of JournalFull = codes "bl: journal full" ++ 10 ∷ []
+line_of NumbersUsedUp = codes "bl: no load number is left" ++ 10 ∷ []

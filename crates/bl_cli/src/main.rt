@@ -1,27 +1,37 @@
 //! The program `bl`: loads of property graph CSV, as the Neptune bulk loader makes them.
 //!
-//! `bl ROOT STORE load s3://BUCKET/KEY [--changes]` reads the file `ROOT/BUCKET/KEY`, admits its
-//! rows into an empty graph and prints the line of the job, with `--changes` after a line for each
-//! change. [`run`] does this over whatever outside it is handed, and its contract says what each
-//! answer means; `main` hands in the real folder, disks and streams.
+//! `bl ROOT STORE load s3://BUCKET/KEY [options]` loads the files at `ROOT/BUCKET/KEY` into the
+//! graph that the store keeps, and prints the line of the job, with `--changes` after a line for
+//! each change. [`run`] does this over whatever outside it is handed, and its contract says what
+//! each answer means and what a crash leaves; `main` hands in the real folder, disks and streams.
 //!
-//! Words of the contracts: `specs/Words` (the command line), `specs/Batches` and `specs/Loads` (a
-//! load), `specs/Outputs` (what is printed), `specs/Runs` (how a run ends). What a file, its header
-//! and its records mean is said in `bl_rows` and `bl_header`.
+//! Words of the contracts: `specs/Words` (the command line), `specs/Runs` (how a run ends),
+//! `specs/Stores` (what it makes of the store), `specs/Loads` (a load over an engine),
+//! `specs/Outputs` (what is printed), `specs/Printing` (text that is written in pieces). What turns
+//! of the loader do is said in `bl_load`, what loads come to in `bl_chain`.
 #![tactic(auto)]
 
-mod batch;
-mod columns;
-mod load_id;
-mod loading;
+mod asked;
+#[cfg(test)]
+mod fault_tests;
+mod job_text;
+mod load_fault;
+mod load_option;
+mod loads;
+mod options;
 mod outputs;
+mod printing;
+#[cfg(test)]
+mod resume_tests;
 #[cfg(test)]
 mod run_tests;
 mod status;
+#[cfg(test)]
+mod test_runs;
 mod top;
 mod words;
 
-use bl_outside::{Disks, FixedClock, Sink};
+use bl_outside::{Disks, FixedClock};
 use bl_system::{FileDisk, ReadSource, RealFolder, WriteSink};
 pub use status::Status;
 use std::alloc::{AllocError, Global};
@@ -31,30 +41,36 @@ use std::process::ExitCode;
 use std::thread::Threads;
 pub use top::run;
 
-// A file of the store.
-fn disk_at(
+// A slot of the store, where the store is open.
+fn slot_at(
     rt: &HostRuntime,
     alloc: Global,
     store: &str,
     name: &str,
-) -> Result<FileDisk<HostRuntime>, AllocError> {
+    open: bool,
+) -> Result<FileDisk, AllocError> {
+    if !open {
+        return Ok(FileDisk::closed(alloc));
+    }
     let path = format!(in alloc; "{store}/{name}")?;
     Ok(FileDisk::open(rt, alloc, store, path.as_str()))
 }
 
-fn disks_of(
-    rt: &HostRuntime,
-    alloc: Global,
-    store: &str,
-) -> Result<Disks<FileDisk<HostRuntime>>, AllocError> {
+// The files of a store. The journal is locked as long as the program runs; where another program
+// has locked it, no file is opened.
+fn disks_of(rt: &HostRuntime, alloc: Global, store: &str) -> Result<Disks<FileDisk>, AllocError> {
+    let path = format!(in alloc; "{store}/journal.bl")?;
+    let journal = FileDisk::open_locked(rt, alloc, store, path.as_str());
+    let open = journal.is_open();
     Ok(Disks {
-        journal: disk_at(rt, alloc, store, "journal.bl")?,
-        left: disk_at(rt, alloc, store, "left.bl")?,
-        right: disk_at(rt, alloc, store, "right.bl")?,
+        journal,
+        left: slot_at(rt, alloc, store, "left.bl", open)?,
+        right: slot_at(rt, alloc, store, "right.bl", open)?,
     })
 }
 
-// The arguments behind the program's own name, or why they can't be had: one is no text, or memory ran out.
+// The arguments behind the program's own name, or why they can't be had: one is no text, or memory
+// ran out.
 fn arguments(rt: &HostRuntime) -> Result<Vec<String>, Status> {
     let all = match env::args(rt) {
         Ok(all) => all,
@@ -103,7 +119,7 @@ fn run_real<R: Threads + Sync>(
 
 // A refusal before the run, with its line.
 fn refuse(rt: HostRuntime, status: Status) -> Status {
-    match WriteSink::new(rt.stderr()).put(status.line()) {
+    match status.write_line(&mut WriteSink::new(rt.stderr())) {
         Ok(()) => status,
         Err(_) => Status::WriteFault,
     }

@@ -1,30 +1,33 @@
 // The words of the command line.
-ghost use Rattle.std.specs.Prelude.{◌≡◌, length, map, IfOk, IfSome, string_bytes};
-ghost use Rattle.std.specs.Str.{IsUtf8};
-ghost use Rattle.bl_cli.specs.Words.{asked, asked_of, is_word};
+ghost use Rattle.std.specs.Prelude.{
+  ◌≡◌,
+  [],
+  ◌∷◌,
+  map,
+  option_map,
+  string_bytes,
+  IfOk,
+  IfSome,
+  MatchOption,
+};
+ghost use Rattle.bl_entry.specs.Valid.{IsRequest};
+ghost use Rattle.bl_cli.specs.Options.{
+  Reads,
+  asked_by,
+  begun,
+  is_word,
+  mode_begun,
+  mode_named,
+  option_named,
+};
+ghost use Rattle.bl_cli.specs.Words.{AskForNothing, AsksFor, IsPlain};
 
-use bl_files::path_of;
-use bl_outside::{NoMemory, Text};
+use crate::asked::Asked;
+use crate::load_option::LoadOption;
+use crate::options::Options;
+use bl_files::{LoadRequest, Mode, kept_source};
+use bl_outside::{List, NoMemory, Text};
 use std::alloc::Global;
-
-/// A load that is asked for.
-#[derive(Debug, Drop)]
-pub struct Asked {
-    /// The path of the source, without `s3://`.
-    pub path: Text,
-    /// The changes are to be printed.
-    pub changes: bool,
-}
-
-fn asked_of(alloc: Global, source: &str, changes: bool) -> Result<Option<Asked>, NoMemory>
-    ensures asked { IfOk result (λ asked. asked ≡ asked_of source.now changes) }
-    ensures utf8 { IfOk result (λ asked. IfSome asked (λ load. IsUtf8 load.path)) }
-{
-    match path_of(alloc, source.as_bytes())? {
-        Some(path) => Ok(Some(Asked { path, changes })),
-        None => Ok(None),
-    }
-}
 
 fn is_word(text: &str, word: &str) -> bool
     ensures { result ≡ is_word text.now word.now }
@@ -32,43 +35,128 @@ fn is_word(text: &str, word: &str) -> bool
     text == word
 }
 
+fn mode_named(word: &str) -> Option<Mode>
+    ensures { result ≡ mode_named word.now }
+{
+    if is_word(word, "NEW") {
+        Some(Mode::New)
+    } else if is_word(word, "RESUME") {
+        Some(Mode::Resume)
+    } else if is_word(word, "AUTO") {
+        Some(Mode::Auto)
+    } else {
+        None
+    }
+}
+
+// The option that is one word.
+fn option_named(word: &str) -> Option<LoadOption>
+    ensures { result ≡ option_named word.now }
+{
+    if is_word(word, "--keep-going") {
+        Some(LoadOption::KeepGoing)
+    } else if is_word(word, "--update-single") {
+        Some(LoadOption::UpdateSingle)
+    } else if is_word(word, "--changes") {
+        Some(LoadOption::Changes)
+    } else {
+        None
+    }
+}
+
+// The mode with which the words begin, and the words behind it.
+fn begun_mode(words: &[String]) -> Option<(LoadOption, &[String])>
+    ensures { option_map (λ found. (found.0, map string_bytes found.1.now)) result
+        ≡ mode_begun (map string_bytes words.now) }
+{
+    match words {
+        [] => None,
+        [word, rest @ ..] => match mode_named(word.as_str()) {
+            Some(mode) => Some((LoadOption::Mode(mode), rest)),
+            None => None,
+        },
+    }
+}
+
+// The option with which the words begin, and the words behind it.
+fn begun(words: &[String]) -> Option<(LoadOption, &[String])>
+    ensures { option_map (λ found. (found.0, map string_bytes found.1.now)) result
+        ≡ begun (map string_bytes words.now) }
+{
+    match words {
+        [] => None,
+        [word, rest @ ..] => match option_named(word.as_str()) {
+            Some(option) => Some((option, rest)),
+            None => {
+                if is_word(word.as_str(), "--mode") {
+                    begun_mode(rest)
+                } else {
+                    None
+                }
+            }
+        },
+    }
+}
+
+// What the options say, where each is given at most once.
+fn read_options(words: &[String], given: Options) -> Option<Options>
+    ensures { Reads (map string_bytes words.now) given result }
+{
+    if words.is_empty() {
+        return Some(given);
+    }
+    let (option, rest) = begun(words)?;
+    read_options(rest, given.with(option)?)
+}
+
+// What a load of the source asks for.
+fn asked_by(alloc: Global, source: Text, options: Options) -> Asked
+    ensures { result ≡ asked_by source options }
+{
+    Asked {
+        request: LoadRequest {
+            source,
+            format: 0,
+            mode: options.mode.unwrap_or(Mode::Auto),
+            fail_on_error: !options.keep_going,
+            update_single: options.update_single,
+            parallelism: 2,
+            queue: false,
+            dependencies: List::new(alloc),
+        },
+        changes: options.changes,
+    }
+}
+
+// The first word, and those behind it.
+fn split(words: &[String]) -> Option<(&String, &[String])>
+    ensures { MatchOption result (words.now ≡ []) (λ parts. words.now ≡ parts.0.now ∷ parts.1.now) }
+{
+    words.split_first()
+}
+
 /// What the words behind ROOT and STORE ask for. None where they are outside the grammar.
 pub fn read_words(alloc: Global, words: &[String]) -> Result<Option<Asked>, NoMemory>
-    ensures asked { IfOk result (λ load. load ≡ asked (map string_bytes words.now)) }
-    ensures utf8 { IfOk result (λ asked. IfSome asked (λ load. IsUtf8 load.path)) }
+    ensures asked { IfOk result (λ asked. MatchOption asked
+        (AskForNothing (map string_bytes words.now))
+        (AsksFor (map string_bytes words.now))) }
+    ensures valid { IfOk result (λ asked. IfSome asked (λ load. IsRequest load.request
+        × IsPlain load.request)) }
 {
-    if words.len() == 2 {
-        return read_two(alloc, words);
-    }
-    if words.len() == 3 {
-        return read_three(alloc, words);
-    }
-    Ok(None)
-}
-
-// `load SOURCE`
-fn read_two(alloc: Global, words: &[String]) -> Result<Option<Asked>, NoMemory>
-    requires { length words.now ≡ 2 }
-    ensures asked { IfOk result (λ load. load ≡ asked (map string_bytes words.now)) }
-    ensures utf8 { IfOk result (λ asked. IfSome asked (λ load. IsUtf8 load.path)) }
-{
-    if !is_word(words[0].as_str(), "load") {
+    let Some((command, rest)) = split(words) else {
+        return Ok(None);
+    };
+    let Some((source, options)) = split(rest) else {
+        return Ok(None);
+    };
+    if !is_word(command.as_str(), "load") {
         return Ok(None);
     }
-    asked_of(alloc, words[1].as_str(), false)
-}
-
-// `load SOURCE --changes`
-fn read_three(alloc: Global, words: &[String]) -> Result<Option<Asked>, NoMemory>
-    requires { length words.now ≡ 3 }
-    ensures asked { IfOk result (λ load. load ≡ asked (map string_bytes words.now)) }
-    ensures utf8 { IfOk result (λ asked. IfSome asked (λ load. IsUtf8 load.path)) }
-{
-    if !is_word(words[0].as_str(), "load") {
+    let Some(options) = read_options(options, Options::none()) else {
         return Ok(None);
+    };
+    match kept_source(alloc, source.as_bytes())? {
+        Some(source) => Ok(Some(asked_by(alloc, source, options))),
+        None => Ok(None),
     }
-    if !is_word(words[2].as_str(), "--changes") {
-        return Ok(None);
-    }
-    asked_of(alloc, words[1].as_str(), true)
 }

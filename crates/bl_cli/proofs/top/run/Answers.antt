@@ -1,16 +1,33 @@
-use Rattle.std.proofs.Common.{⊎_elim, map}
+use Rattle.std.proofs.Common.{map}
 use Rattle.std.specs.String.{string_bytes}
-use Rattle.bl_cli.specs.Words.{asked}
-use Rattle.bl_cli.proofs.Answered.{answered}
+use Rattle.bl_cli.proofs.Reported.{has_reported, run_begun, run_complete, run_done, run_usage, run_used}
 use Rattle.bl_cli.proofs.top.run.Goals as goal
 
+pub returns-clause-done : goal.returns-clause-done
+returns-clause-done g c =
+    run_done g.D.Disk (g.F.Folder.files c.args.folder.now) c.args.salt (map string_bytes c.args.words.now) c.args.disks c.answer-status.result.1 (g.O.Sink.written c.args.out.now) (g.O.Sink.written c.answer-status.new.out) (g.O.Sink.faults c.args.out.now) (g.O.Sink.faults c.answer-status.new.out) c.answer-status.result.0 c.report.result
+    (g.E.Sink.written c.args.err.now) (g.E.Sink.written c.report.new.err) (g.E.Sink.faults c.args.err.now) (g.E.Sink.faults c.report.new.err) c.answer-status.ensures.answers c.report.ensures
+
+pub returns-clause-begun : goal.returns-clause-begun
+returns-clause-begun g c =
+    run_begun g.D.Disk (g.F.Folder.files c.args.folder.now) c.args.salt (map string_bytes c.args.words.now) c.args.disks c.answer-status.result.1 (g.O.Sink.written c.args.out.now) (g.O.Sink.written c.answer-status.new.out) (g.O.Sink.faults c.args.out.now) (g.O.Sink.faults c.answer-status.new.out) c.answer-status.result.0 c.report.result
+    (g.E.Sink.written c.args.err.now) (g.E.Sink.written c.report.new.err) (g.E.Sink.faults c.args.err.now) (g.E.Sink.faults c.report.new.err) c.answer-status.ensures.answers c.report.ensures
+
+pub returns-clause-usage : goal.returns-clause-usage
+returns-clause-usage g c =
+    run_usage g.D.Disk (g.F.Folder.files c.args.folder.now) c.args.salt (map string_bytes c.args.words.now) c.args.disks c.answer-status.result.1 (g.O.Sink.written c.args.out.now) (g.O.Sink.written c.answer-status.new.out) (g.O.Sink.faults c.args.out.now) (g.O.Sink.faults c.answer-status.new.out) c.answer-status.result.0 c.report.result
+    (g.E.Sink.written c.args.err.now) (g.E.Sink.written c.report.new.err) (g.E.Sink.faults c.args.err.now) (g.E.Sink.faults c.report.new.err) c.answer-status.ensures.answers c.report.ensures
+
+pub returns-clause-used_up : goal.returns-clause-used_up
+returns-clause-used_up g c =
+    run_used g.D.Disk (g.F.Folder.files c.args.folder.now) c.args.salt (map string_bytes c.args.words.now) c.args.disks c.answer-status.result.1 (g.O.Sink.written c.args.out.now) (g.O.Sink.written c.answer-status.new.out) (g.O.Sink.faults c.args.out.now) (g.O.Sink.faults c.answer-status.new.out) c.answer-status.result.0 c.report.result
+    (g.E.Sink.written c.args.err.now) (g.E.Sink.written c.report.new.err) (g.E.Sink.faults c.args.err.now) (g.E.Sink.faults c.report.new.err) c.answer-status.ensures.answers c.report.ensures
+
 pub returns-clause-complete : goal.returns-clause-complete
-returns-clause-complete g c quiet =
-    answered (g.F.Folder.files c.args.folder.now) (asked (map string_bytes c.args.words.now)) c.respond-status.result
-    (record {
-      ok = λ is. let cause = c.respond-status.ensures.ok is in (cause.0, cause.1, (cause.2.loaded, cause.2.load));
-      not_completed = λ is. quiet.folder_quiet (c.respond-status.ensures.failed is);
-      usage = c.respond-status.ensures.usage;
-      not_built = c.respond-status.ensures.not_built;
-      write_fault = λ is. ⊎_elim quiet.out_quiet quiet.err_quiet (c.respond-status.ensures.write_fault is);
-    })
+returns-clause-complete g c =
+    run_complete g.D.Disk (g.F.Folder.files c.args.folder.now) c.args.salt (map string_bytes c.args.words.now) c.args.disks c.answer-status.result.1 (g.O.Sink.written c.args.out.now) (g.O.Sink.written c.answer-status.new.out) (g.O.Sink.faults c.args.out.now) (g.O.Sink.faults c.answer-status.new.out) c.answer-status.result.0 c.report.result
+    (g.E.Sink.written c.args.err.now) (g.E.Sink.written c.report.new.err) (g.E.Sink.faults c.args.err.now) (g.E.Sink.faults c.report.new.err) c.answer-status.ensures.answers c.report.ensures c.left_files_are_never_bad.ensures (g.met.D.Disk.seen_is_image c.args.disks.journal)
+
+pub returns-clause-line : goal.returns-clause-line
+returns-clause-line g c =
+    has_reported (g.E.Sink.written c.args.err.now) (g.E.Sink.written c.report.new.err) (g.E.Sink.faults c.args.err.now) (g.E.Sink.faults c.report.new.err) c.answer-status.result.0 c.report.result c.report.ensures

@@ -1,15 +1,25 @@
-use Rattle.std.proofs.Common.{◌≡◌, ℕ, List, [], ◌∷◌, length, map, None, refl}
+use Rattle.std.specs.Prelude.{codes}
+use Rattle.std.proofs.Common.{map, None, Some, ◌∷◌, true, subst, sym, ap, ◌∙◌, ◌≡◌}
 use Rattle.std.specs.String.{string_bytes}
-use Rattle.bl_cli.specs.Words.{asked}
+use Rattle.bl_files.specs.Sources.{kept_source}
+use Rattle.bl_cli.specs.Options.{Reads, is_word}
+use Rattle.bl_cli.specs.Words.{AskForNothing, AsksFor}
+use Rattle.bl_cli.proofs.Readings.{two_words}
+use Rattle.bl_cli.proofs.GivenOptions.{asks, no_options}
 use Rattle.bl_cli.proofs.words.read_words.Goals as goal
 
--- other numbers of words ask for nothing
-other_number : {A : Type 0} (f : A → List ℕ) (words : List A) → ¬ (length words ≡ 2) → ¬ (length words ≡ 3) → None ≡ asked (map f words)
-other_number f [] not_two not_three = refl
-other_number f (a ∷ []) not_two not_three = refl
-other_number f (a ∷ (b ∷ [])) not_two not_three = absurd (not_two refl)
-other_number f (a ∷ (b ∷ (c ∷ []))) not_two not_three = absurd (not_three refl)
-other_number f (a ∷ (b ∷ (c ∷ (d ∷ rest)))) not_two not_three = refl
+pub returns-in_default-read_options-clause-asked : goal.returns-in_default-read_options-clause-asked
+returns-in_default-read_options-clause-asked c =
+    subst AskForNothing (sym (two_words string_bytes c.args.words.now c.in-Some.rest.now c.in-Some-split.options.now c.in-Some.command.now c.in-Some-split.source.now c.in-Some.ensures c.in-Some-split.ensures))
+    (no_options (string_bytes c.in-Some.command.now) (string_bytes c.in-Some-split.source.now) (map string_bytes c.in-Some-split.options.now)
+    (subst (λ given. Reads (map string_bytes c.in-Some-split.options.now) given None) c.none.ensures c.in_default-read_options.ensures))
 
-pub returns-clause-asked : goal.returns-clause-asked
-returns-clause-asked c = other_number string_bytes c.args.words.now c.if-words-eq2.false c.if-words-eq3.false
+pub returns-in-Some-2-clause-asked : goal.returns-in-Some-2-clause-asked
+returns-in-Some-2-clause-asked c =
+    subst (λ them. AsksFor them c.asked_by.result)
+    (sym (two_words string_bytes c.args.words.now c.in-Some.rest.now c.in-Some-split.options.now c.in-Some.command.now c.in-Some-split.source.now c.in-Some.ensures c.in-Some-split.ensures))
+    (subst (λ load. AsksFor (string_bytes c.in-Some.command.now ∷ (string_bytes c.in-Some-split.source.now ∷ map string_bytes c.in-Some-split.options.now)) load) (sym c.asked_by.ensures)
+    (asks (string_bytes c.in-Some-split.source.now) c.in-Some-2.source (map string_bytes c.in-Some-split.options.now) c.in-Some-read_options.options (string_bytes c.in-Some.command.now)
+    (subst (λ w. is_word w (codes "load") ≡ true) c.as_str.ensures.value (sym c.if-not-is_word.ensures))
+    (subst (λ given. Reads (map string_bytes c.in-Some-split.options.now) given (Some c.in-Some-read_options.options)) c.none.ensures c.in-Some-read_options.ensures)
+    (sym c.in-Some-2.is ∙ c.in_ok-source.ensures.source ∙ ap kept_source c.as_bytes.ensures.value)))

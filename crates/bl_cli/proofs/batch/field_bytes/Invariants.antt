@@ -1,5 +1,0 @@
-use Rattle.std.proofs.Common.{◌≡◌, take, length, sum_by}
-use Rattle.bl_cli.proofs.batch.field_bytes.Given as goal
-
-abbrev pub invariant-loop-field : goal.invariant-loop-field
-invariant-loop-field l = l.bytes ≡ sum_by length (take l.field-index l.fields)

@@ -1,5 +1,0 @@
-use Rattle.std.proofs.Common.{◌≡◌, take, length, sum_by}
-use Rattle.bl_cli.proofs.batch.property_values.Given as goal
-
-abbrev pub invariant-loop-property : goal.invariant-loop-property
-invariant-loop-property l = l.count ≡ sum_by (λ property. length property.values) (take l.property-index l.properties)
