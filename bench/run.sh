@@ -27,4 +27,5 @@ for n in "$size" $((2 * size)); do
     timed convert "$n"
     timed entries $((n / 100))
     timed admit "$n"
+    timed requests "$n"
 done

@@ -11,6 +11,7 @@
 //! | `convert` | the same rows are read, digested and converted | the same |
 //! | `entries` | a batch of 1,000 rows and 3,000 changes is decoded and encoded SIZE times | the times, and the bytes written |
 //! | `admit` | SIZE rows, half of them vertices and half edges, are admitted into a graph and their changes applied | what the rows did, and the sizes of the graph |
+//! | `requests` | SIZE small requests are read, one behind the other | the requests, and the bytes of their paths |
 #![tactic(auto)]
 
 mod admitting;
@@ -18,6 +19,7 @@ mod counts;
 mod entries;
 mod graph_rows;
 mod journal;
+mod requests;
 mod rows;
 
 use admitting::Admitting;
@@ -41,6 +43,7 @@ fn through_bytes(alloc: Global, layer: &str, size: u64) -> Option<Counts> {
         "records" => rows::records(alloc, size),
         "convert" => rows::converted(alloc, size),
         "entries" => entries::entries(alloc, size),
+        "requests" => requests::requests(alloc, size),
         _ => None,
     }
 }
