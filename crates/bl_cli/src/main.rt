@@ -27,8 +27,6 @@ mod resume_tests;
 mod run_tests;
 mod status;
 #[cfg(test)]
-mod stop_tests;
-#[cfg(test)]
 mod test_runs;
 mod top;
 mod words;

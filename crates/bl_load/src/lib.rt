@@ -36,10 +36,4 @@ pub use turn_fault::TurnFault;
 pub use turning::{drain, turn};
 
 #[cfg(test)]
-mod test_loader;
-#[cfg(test)]
-mod test_texts;
-#[cfg(test)]
 mod tests;
-#[cfg(test)]
-mod turn_tests;

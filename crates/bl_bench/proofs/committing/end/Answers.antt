@@ -1,6 +1,0 @@
-use Rattle.std.proofs.Common.{refl}
-use Rattle.bl_bench.proofs.Committing.{adds}
-use Rattle.bl_bench.proofs.committing.end.Goals as goal
-
-pub returns : goal.returns
-returns c = adds c.in-Ok.ensures.attempts refl c.requires
