@@ -42,4 +42,8 @@ pub use laws::{
 pub use taking_rows::RECORD_LIMIT;
 
 #[cfg(test)]
-mod tests;
+mod queue_tests;
+#[cfg(test)]
+mod running_tests;
+#[cfg(test)]
+mod test_jobs;

@@ -41,4 +41,6 @@ pub use value::{FIRST_DATE, LAST_DATE, TEXT_LIMIT, Value, compare};
 pub use value_type::ValueType;
 
 #[cfg(test)]
+mod array_tests;
+#[cfg(test)]
 mod tests;
