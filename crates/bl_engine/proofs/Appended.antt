@@ -23,9 +23,10 @@ use Rattle.bl_engine.specs.Engines.{IsAt, IsSure, Stays, View}
 use Rattle.bl_engine.specs.Openings.{IsTold, Judges, Meets}
 use Rattle.bl_engine.specs.Calls.{Breaks, Handles, Settled}
 use Rattle.bl_engine.specs.Outcomes.{Outcome, Done, Full, Refused, Stopped, trouble_in}
-use Rattle.bl_engine.specs.Attempts.{AppendsNothing, Attempts, LeavesClosed, LeavesReady, Makes}
+use Rattle.bl_engine.specs.Attempts.{AppendsNothing, Attempts, HasNoRoom, LeavesClosed, LeavesReady, Makes}
 use Rattle.bl_engine.specs.Appending.{Adds, refused_outcome}
 use Rattle.bl_engine.proofs.Committed.{at_has, pushed, since}
+use Rattle.bl_engine.proofs.Counting.{world_counts}
 use Rattle.bl_engine.proofs.Settling.{stays_now, stays_sound, stood_kept}
 use Rattle.bl_engine.proofs.Looking.{at_state, quiet}
 
@@ -66,7 +67,7 @@ module _ {D : Type 0} (of : Ghosts D) (counts : (disk : D) (t : ℕ) (c : List �
   at_of s stays = (at_state of counts only old s ready stays).0
 
   -- closed, over the journal as it was
-  module _ (same : new.journal ≡ old.journal) (shut : new.ready ≡ false) where
+  module _ (same : new.journal ≡ old.journal) (shut : new.ready ≡ false) (seq : new.seq ≡ old.seq) where
     still : (s : State) → Stays of old s → Settled of (λ _. Unit {0}) old new s
     still s stays =
         let at = at_of s stays in
@@ -81,6 +82,7 @@ module _ {D : Type 0} (of : Ghosts D) (counts : (disk : D) (t : ℕ) (c : List �
             });
             since = subst (λ (j : JournalRecord D). Since of old.journal.disk j.disk (λ c. IsImageOf s c ⊎ IsImageOf (at_rest s.kept) c)) (sym same)
                 (quiet of counts only old.journal.disk (λ c. IsImageOf s c ⊎ IsImageOf (at_rest s.kept) c) (λ c now. inr (has c now)));
+            counts = λ counted. seq ∙ counted;
           },
         )
 
@@ -95,6 +97,7 @@ module _ {D : Type 0} (of : Ghosts D) (counts : (disk : D) (t : ℕ) (c : List �
       commits = λ is. cc;
       breaks = λ isnt. broken;
       rests = λ none. absurd none;
+      no_room = λ is. cc;
       ready = λ leaves. absurd leaves;
       closed = λ leaves. absurd leaves;
       done = λ is. cc;
@@ -116,6 +119,9 @@ module _ {D : Type 0} (of : Ghosts D) (counts : (disk : D) (t : ℕ) (c : List �
       commits = λ is. full_not_done is;
       breaks = λ isnt. broken;
       rests = λ none. still;
+      no_room = λ is s stays.
+          let at = at_of s stays in
+          subst (λ (j : JournalRecord D). HasNoRoom of makes s j) (sym same) (record { entries = s.kept; settles = stood_kept s.kept s.pending; ends = at.ends; world = old.world; leads = at.world; entry = entry; made = made; follows = follows; full = full });
       ready = λ leaves. absurd leaves;
       closed = λ leaves. shut;
       done = λ is. full_not_done is;
@@ -165,10 +171,12 @@ module _ {D : Type 0} (of : Ghosts D) (counts : (disk : D) (t : ℕ) (c : List �
                   stays = inl (pushed of old new s.kept entry at unshut valid step (adds.acknowledged (bodies_of s.kept) at.ends), refl);
                   since = weaker of.moment of.left_since old.journal.disk new.journal.disk (WithEntry s.kept entry) (λ c. IsImageOf s c ⊎ IsImageOf (at_rest (entry ∷ s.kept)) c) (run_with s stays step adds.any_moment)
                       (λ c. ⊎_elim (λ without. inl (s.kept, stood_kept s.kept s.pending, without)) (λ with. inr (entry ∷ s.kept, refl, with)));
+                  counts = λ counted. omega (arith, seq, step.next.entries, world_counts s.kept old.world at.world);
                 },
               );
           breaks = λ isnt. absurd (isnt refl);
           rests = λ none. absurd none;
+          no_room = λ is. cc;
           ready = λ leaves. unshut;
           closed = λ leaves. absurd leaves;
           done = λ is. it_is_done step (seq ∙ step.next.entries);
@@ -178,9 +186,9 @@ module _ {D : Type 0} (of : Ghosts D) (counts : (disk : D) (t : ℕ) (c : List �
         }
 
     -- what a failed append leaves
-    pending : (s : State) → Stays of old s → new.ready ≡ false → Step old.world entry new.world → ((bodies : List (List ℕ)) → Ends of old.journal bodies → Since of old.journal.disk new.journal.disk (WithOrWithout bodies (entry_bytes entry)))
+    pending : (s : State) → Stays of old s → new.ready ≡ false → new.seq ≡ old.seq → Step old.world entry new.world → ((bodies : List (List ℕ)) → Ends of old.journal bodies → Since of old.journal.disk new.journal.disk (WithOrWithout bodies (entry_bytes entry)))
         → IsSound of new.journal.disk → Breaks of makes old new s
-    pending s stays shut step run sound =
+    pending s stays shut seq step run sound =
         let image : (c : List ℕ) → WithEntry s.kept entry c → IsImageOf (unsure s.kept entry) c = λ c. ⊎_elim (λ without. (s.kept, inl refl, without)) (λ with. (entry ∷ s.kept, inr refl, with)) in
         let runs = run_with s stays step run in (
           unsure s.kept entry,
@@ -188,17 +196,19 @@ module _ {D : Type 0} (of : Ghosts D) (counts : (disk : D) (t : ℕ) (c : List �
           record {
             stays = inr (record { closed = shut; sound = sound; each = λ c now. image c (at_end of.moment of.left_since old.journal.disk new.journal.disk (WithEntry s.kept entry) counts runs c now) });
             since = weaker of.moment of.left_since old.journal.disk new.journal.disk (WithEntry s.kept entry) (λ c. IsImageOf s c ⊎ IsImageOf (unsure s.kept entry) c) runs (λ c w. inr (image c w));
+            counts = λ counted. seq ∙ counted;
           },
         )
 
     -- it isn't known whether it was
-    attempts_pending : (what : Trouble) → new.ready ≡ false → Step old.world entry new.world → ((bodies : List (List ℕ)) → Ends of old.journal bodies → Since of old.journal.disk new.journal.disk (WithOrWithout bodies (entry_bytes entry)))
+    attempts_pending : (what : Trouble) → new.ready ≡ false → new.seq ≡ old.seq → Step old.world entry new.world → ((bodies : List (List ℕ)) → Ends of old.journal bodies → Since of old.journal.disk new.journal.disk (WithOrWithout bodies (entry_bytes entry)))
         → (IsSound of old.journal.disk ↔ IsSound of new.journal.disk) → of.faults old.journal.disk ≤ of.faults new.journal.disk → (Some what ≡ Some StoreFault → Rose (of.faults old.journal.disk) (of.faults new.journal.disk))
         → ((place : ℕ) → ¬ (Some what ≡ Some (BadStore place))) → Attempts of makes old new (Stopped what)
-    attempts_pending what shut step run sound later store good = record {
+    attempts_pending what shut seq step run sound later store good = record {
       commits = λ is. not_done what is;
-      breaks = λ isnt s stays. pending s stays shut step run (sound.0 (stays_sound of old s stays));
+      breaks = λ isnt s stays. pending s stays shut seq step run (sound.0 (stays_sound of old s stays));
       rests = λ none. absurd none;
+      no_room = λ is. not_full what is;
       ready = λ leaves. absurd leaves;
       closed = λ leaves. shut;
       done = λ is. not_done what is;
@@ -208,13 +218,13 @@ module _ {D : Type 0} (of : Ghosts D) (counts : (disk : D) (t : ℕ) (c : List �
     }
 
     -- it wasn't
-    attempts_full : new.ready ≡ false → new.journal ≡ old.journal → IsFull old.journal.place (length (entry_bytes entry)) → Attempts of makes old new Full
-    attempts_full shut same full = attempts_long same shut entry made begins.0 full
+    attempts_full : new.ready ≡ false → new.seq ≡ old.seq → new.journal ≡ old.journal → IsFull old.journal.place (length (entry_bytes entry)) → Attempts of makes old new Full
+    attempts_full shut seq same full = attempts_long same shut seq entry made begins.0 full
 
-    pub attempts_failed : (refusal : AppendRefusal) → new.ready ≡ false → Adds of entry old.journal new.journal begun new.world (Err (refused_by refusal)) → Attempts of makes old new (refused_outcome refusal)
-    attempts_failed append.NoMemory shut adds = attempts_pending NoMemory shut (adds.step tt old.world begins) adds.any_moment adds.sound adds.later (λ is. starved_not_store is) starved_not_bad
-    attempts_failed append.StoreFault shut adds = attempts_pending StoreFault shut (adds.step tt old.world begins) adds.any_moment adds.sound adds.later (λ is. adds.store refl) fault_not_bad
-    attempts_failed append.Full shut adds = attempts_full shut (adds.full refl).0 (adds.full refl).1
+    pub attempts_failed : (refusal : AppendRefusal) → new.ready ≡ false → new.seq ≡ old.seq → Adds of entry old.journal new.journal begun new.world (Err (refused_by refusal)) → Attempts of makes old new (refused_outcome refusal)
+    attempts_failed append.NoMemory shut seq adds = attempts_pending NoMemory shut seq (adds.step tt old.world begins) adds.any_moment adds.sound adds.later (λ is. starved_not_store is) starved_not_bad
+    attempts_failed append.StoreFault shut seq adds = attempts_pending StoreFault shut seq (adds.step tt old.world begins) adds.any_moment adds.sound adds.later (λ is. adds.store refl) fault_not_bad
+    attempts_failed append.Full shut seq adds = attempts_full shut seq (adds.full refl).0 (adds.full refl).1
 
     -- the engine stays sure of its journal
     pub sure_done : IsSure of old → new.ready ≡ true → new.seq ≡ new.world.entries → Adds of entry old.journal new.journal begun new.world (Ok tt) → IsSure of new

@@ -17,7 +17,7 @@ use Rattle.bl_engine.specs.Engines.{Stays, View}
 use Rattle.bl_engine.specs.Openings.{Meets}
 use Rattle.bl_engine.specs.Calls.{Answers, Breaks, Commits, Handles, Looks, Settled}
 use Rattle.bl_engine.specs.Outcomes.{Outcome, Done, Refused, Full, Stopped, trouble_in}
-use Rattle.bl_engine.specs.Attempts.{AppendsNothing, Attempts, LeavesClosed, LeavesReady, Makes}
+use Rattle.bl_engine.specs.Attempts.{AppendsNothing, Attempts, HasNoRoom, LeavesClosed, LeavesReady, Makes}
 use Rattle.bl_engine.specs.Findings.{Finds}
 use Rattle.bl_engine.specs.Appending.{IsJust}
 
@@ -53,6 +53,7 @@ module _ {D : Type 0} (of : Ghosts D) (makes : World → Entry → Type 0) (old 
     pub settles : Settles s entries
     pub stays : Stays of mid (at_rest entries)
     pub since : Since of old.journal.disk mid.journal.disk (λ c. IsImageOf s c ⊎ IsImageOf (at_rest entries) c)
+    pub counts : old.seq ≡ length s.kept → mid.seq ≡ length entries
 
   rested : (s : State) → Stays of old s → Rested s
   rested s stays =
@@ -62,10 +63,11 @@ module _ {D : Type 0} (of : Ghosts D) (makes : World → Entry → Type 0) (old 
         settles = t.1.2;
         stays = subst (λ to. Stays of mid to) t.1.5 t.2.stays;
         since = subst (λ to. Since of old.journal.disk mid.journal.disk (λ c. IsImageOf s c ⊎ IsImageOf to c)) t.1.5 t.2.since;
+        counts = λ counted. t.2.counts counted ∙ ap (λ (to : State). length to.kept) t.1.5;
       }
 
   then_answers : (s : State) (r : Rested s) (to : State) → Answers of mid new (at_rest r.entries) to → Answers of old new s to
-  then_answers s r to answers = record { stays = answers.stays; since = both s to r.entries r.settles r.since answers.since }
+  then_answers s r to answers = record { stays = answers.stays; since = both s to r.entries r.settles r.since answers.since; counts = λ counted. answers.counts (r.counts counted) }
 
   settled_by : (s : State) (r : Rested s) (entries : List Entry) → entries ≡ r.entries → Settles s entries
   settled_by s r entries same = subst (λ l. Settles s l) (sym same) r.settles
@@ -80,6 +82,9 @@ module _ {D : Type 0} (of : Ghosts D) (makes : World → Entry → Type 0) (old 
   then_settled : (Is : World → Type 0) (s : State) (r : Rested s) → Settled of Is mid new (at_rest r.entries) → Settled of Is old new s
   then_settled Is s r t = (t.0, (t.1.0, t.1.1, settled_by s r t.1.0 t.1.2, t.1.3, t.1.4, t.1.5), then_answers s r t.0 t.2)
 
+  then_no_room : (s : State) (r : Rested s) → HasNoRoom of makes (at_rest r.entries) new.journal → HasNoRoom of makes s new.journal
+  then_no_room s r n = record { entries = n.entries; settles = settled_by s r n.entries n.settles; ends = n.ends; world = n.world; leads = n.leads; entry = n.entry; made = n.made; follows = n.follows; full = n.full }
+
   abbrev then_makes : Makes of makes mid → Makes of makes old
   then_makes m = record { world = m.world; meets = meets_after of old mid m.world ready (looks.meets ready) m.meets; entry = m.entry; made = m.made; follows = m.follows }
 
@@ -91,6 +96,7 @@ module _ {D : Type 0} (of : Ghosts D) (makes : World → Entry → Type 0) (old 
         let b = a.breaks isnt (at_rest r.entries) r.stays in
         (b.0, then_fails s r b.0 b.1, then_answers s r b.0 b.2);
     rests = λ none s stays. let r = rested s stays in then_settled (λ _. Unit {0}) s r (a.rests none (at_rest r.entries) r.stays);
+    no_room = λ is s stays. let r = rested s stays in then_no_room s r (a.no_room is (at_rest r.entries) r.stays);
     ready = a.ready;
     closed = a.closed;
     done = λ is. (then_makes (a.done is).0, (a.done is).1, (a.done is).2);
@@ -116,6 +122,7 @@ module _ {D : Type 0} (of : Ghosts D) (makes : World → Entry → Type 0) (old 
     commits = λ is. not_done what is;
     breaks = λ isnt s stays. (s, inl refl, (looks.closed shut).2 s stays);
     rests = λ none. absurd none;
+    no_room = λ is. not_full what is;
     ready = λ leaves. absurd leaves;
     closed = λ leaves. shut;
     done = λ is. not_done what is;
@@ -140,6 +147,7 @@ module _ {D : Type 0} (of : Ghosts D) (makes : World → Entry → Type 0) (old 
     rests = λ none s stays.
         let t = looks.settled ready s stays in
         (t.0, (t.1.0, t.1.1, t.1.2, t.1.3, tt, t.1.5), t.2);
+    no_room = λ is. cc;
     ready = λ leaves. ready;
     closed = λ leaves. absurd leaves;
     done = λ is. cc;
@@ -156,6 +164,7 @@ module _ {D : Type 0} (of : Ghosts D) (makes : World → Entry → Type 0) (old 
         let t = looks.settled ready s stays in
         (t.0, fails_at_rest s t.0 (λ world. world ≡ mid.world) t.1, t.2);
     rests = λ none. absurd none;
+    no_room = λ is. cc;
     ready = λ leaves. absurd leaves;
     closed = λ leaves. absurd leaves;
     done = λ is. cc;
@@ -178,6 +187,7 @@ attempts_more {D} of makes others old new outcome more a = record {
   commits = λ is s stays. let c = a.commits is s stays in (c.0, (c.1.0, c.1.1, c.1.2, renew c.1.0 c.1.1 c.1.3, c.1.4), c.2);
   breaks = λ isnt s stays. let b = a.breaks isnt s stays in (b.0, refail s b.0 b.1, b.2);
   rests = a.rests;
+  no_room = λ is s stays. reroom s (a.no_room is s stays);
   ready = a.ready;
   closed = a.closed;
   done = λ is. (remake (a.done is).0, (a.done is).1, (a.done is).2);
@@ -191,6 +201,9 @@ attempts_more {D} of makes others old new outcome more a = record {
   refail : (s to : State) → Fails makes s to → Fails others s to
   refail s to (inl same) = inl same
   refail s to (inr f) = inr (f.0, f.1, ⊎_elim (λ same. inl same) (λ n. inr (n.0, renew f.0 n.0 n.1, n.2)) f.2)
+
+  reroom : (s : State) → HasNoRoom of makes s new.journal → HasNoRoom of others s new.journal
+  reroom s n = record { entries = n.entries; settles = n.settles; ends = n.ends; world = n.world; leads = n.leads; entry = n.entry; made = more n.world n.entry n.made; follows = n.follows; full = n.full }
 
   remake : Makes of makes old → Makes of others old
   remake m = record { world = m.world; meets = m.meets; entry = m.entry; made = more m.world m.entry m.made; follows = m.follows }

@@ -1,6 +1,7 @@
-mod Replayed
+pub mod Replayed
 mod Found
 mod Committed
+pub mod Counting
 pub mod Settling
 mod Looking
 pub mod Composed

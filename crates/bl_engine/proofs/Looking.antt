@@ -16,6 +16,7 @@ use Rattle.bl_engine.specs.Images.{IsImageOf}
 use Rattle.bl_engine.specs.Engines.{IsAt, IsSure, Stays, View}
 use Rattle.bl_engine.specs.Openings.{IsTold, Judges, Meets, Opens, TroubleIs}
 use Rattle.bl_engine.specs.Calls.{Answers, Handles, Looks, Settled}
+use Rattle.bl_engine.proofs.Counting.{world_counts}
 use Rattle.bl_engine.proofs.Settling.{before_image, same_entries, stays_now, stays_sound, stood_kept}
 
 not_both : {P : Type 0} (b : Bool) → b ≡ true → b ≡ false → P
@@ -55,6 +56,7 @@ module _ {D : Type 0} (of : Ghosts D) (counts : (disk : D) (t : ℕ) (c : List �
           record {
             stays = inl (at.0, refl);
             since = quiet engine.journal.disk (λ c. IsImageOf s c ⊎ IsImageOf (at_rest s.kept) c) (λ c now. inl (stays_now of engine s stays c now));
+            counts = λ counted. counted;
           },
         );
     closed = λ isnt. not_both engine.ready ready isnt;
@@ -81,8 +83,8 @@ module _ {D : Type 0} (of : Ghosts D) (counts : (disk : D) (t : ℕ) (c : List �
     since_either s to stays run = weaker of.moment of.left_since old.journal.disk new.journal.disk (IsImageOf s) (λ c. IsImageOf s c ⊎ IsImageOf to c) (since_opened s stays run) (λ c i. inl i)
 
     -- it was opened: the entries of the image that was read are settled
-    pub looks_opened : NoneBegins → new.ready ≡ true → Opens of old.journal.disk new.journal (Ok new.world) → Looks of old new None
-    looks_opened codec ready o = record {
+    pub looks_opened : NoneBegins → new.ready ≡ true → new.seq ≡ new.world.entries → Opens of old.journal.disk new.journal (Ok new.world) → Looks of old new None
+    looks_opened codec ready seq o = record {
       same = unready;
       meets = λ is. record { ready = unready; opened = λ isnt told. o.judged told };
       settled = λ is s stays. settled s stays (closed_of s stays);
@@ -104,6 +106,7 @@ module _ {D : Type 0} (of : Ghosts D) (counts : (disk : D) (t : ℕ) (c : List �
             record {
               stays = inl (at, refl);
               since = since_either s (at_rest found.entries) stays (o.any_moment (stays_sound of old s stays));
+              counts = λ counted. seq ∙ world_counts found.entries new.world found.leads;
             },
           )
 
@@ -123,6 +126,7 @@ module _ {D : Type 0} (of : Ghosts D) (counts : (disk : D) (t : ℕ) (c : List �
             each = at_end of.moment of.left_since old.journal.disk new.journal.disk (IsImageOf s) counts (since_opened s stays (o.any_moment (stays_sound of old s stays)));
           });
           since = since_either s s stays (o.any_moment (stays_sound of old s stays));
+          counts = λ counted. seq ∙ counted;
         },
       );
       any_moment = o.any_moment;

@@ -1,13 +1,14 @@
 -- The whole promise of a call that appends.
-use Rattle.std.specs.Prelude.{◌≡◌, ◌⊎◌, ℕ, ◌+◌, true, false, length}
+use Rattle.std.specs.Prelude.{◌≡◌, ◌⊎◌, ℕ, ◌+◌, true, false, List, length}
 use Rattle.bl_outside.specs.declared.disk.Disk.{Ghosts}
-use Rattle.bl_journal.specs.Journals.{HasRoom, IsFull}
+use Rattle.bl_journal.specs.Journals.{Ends, HasRoom, IsFull, JournalRecord}
 use Rattle.bl_entry.specs.declared.entry.Entry.{Entry}
 use Rattle.bl_entry.specs.Encoding.{entry_bytes}
-use Rattle.bl_world.specs.Worlds.{Follows, Step, World}
-use Rattle.bl_world.specs.States.{State}
+use Rattle.bl_world.specs.Worlds.{Follows, IsWorldOf, Step, World}
+use Rattle.bl_world.specs.States.{Settles, State}
 use Rattle.bl_engine.specs.declared.refusals.Trouble.{Trouble}
 use Rattle.bl_engine.specs.declared.refusals.Trouble.TheVariants.{StoreFault, BadStore, NoMemory}
+use Rattle.bl_engine.specs.Images.{bodies_of}
 use Rattle.bl_engine.specs.Engines.{Stays, View}
 use Rattle.bl_engine.specs.Openings.{Meets}
 use Rattle.bl_engine.specs.Calls.{Breaks, Commits, Handles, Settled}
@@ -44,12 +45,26 @@ pub record Makes {D : Type 0} (of : Ghosts D) (makes : World → Entry → Type 
   pub made : makes world entry
   pub follows : Follows world entry
 
+-- The journal ends behind the entries of a state, once its pending one is kept or lost. They lead to a world in which an
+-- entry is made that may follow, but it doesn't fit behind the gate at which the journal stands.
+pub record HasNoRoom {D : Type 0} (of : Ghosts D) (makes : World → Entry → Type 0) (state : State) (journal : JournalRecord D) : Type 0 where
+  pub entries : List Entry
+  pub settles : Settles state entries
+  pub ends : Ends of journal (bodies_of entries)
+  pub world : World
+  pub leads : IsWorldOf entries world
+  pub entry : Entry
+  pub made : makes world entry
+  pub follows : Follows world entry
+  pub full : IsFull journal.place (length (entry_bytes entry))
+
 -- `makes` is the entry that the call appends, in the world that it finds.
 pub record Attempts {D : Type 0} (of : Ghosts D) (makes : World → Entry → Type 0) (old new : View D) (outcome : Outcome) : Type 0 where
   -- over a store that this program left, whatever its state
   pub commits : outcome ≡ Done → (s : State) → Stays of old s → Commits of makes old new s
   pub breaks : ¬ (outcome ≡ Done) → (s : State) → Stays of old s → Breaks of makes old new s
   pub rests : AppendsNothing outcome → (s : State) → Stays of old s → Settled of (λ _. Unit {0}) old new s
+  pub no_room : outcome ≡ Full → (s : State) → Stays of old s → HasNoRoom of makes s new.journal
   -- over every disk
   pub ready : LeavesReady outcome → new.ready ≡ true
   pub closed : LeavesClosed outcome → new.ready ≡ false

@@ -1,5 +1,5 @@
 -- What calls do to the state of a store.
-use Rattle.std.specs.Prelude.{◌≡◌, ◌⊎◌, ◌↔◌, ℕ, ◌≤◌, true, false, List, None, Some, Err}
+use Rattle.std.specs.Prelude.{◌≡◌, ◌⊎◌, ◌↔◌, ℕ, ◌≤◌, true, false, List, length, None, Some, Err}
 use Rattle.std.specs.declared.option.Option.{Option}
 use Rattle.bl_outside.specs.Counts.{Rose}
 use Rattle.bl_outside.specs.declared.disk.Disk.{Ghosts}
@@ -18,6 +18,8 @@ use Rattle.bl_engine.specs.Openings.{IsTold, Judges, Meets}
 pub record Answers {D : Type 0} (of : Ghosts D) (old new : View D) (from to : State) : Type 0 where
   pub stays : Stays of new to
   pub since : Since of old.journal.disk new.journal.disk (λ image. IsImageOf from image ⊎ IsImageOf to image)
+  -- its number of entries stays that of those that are kept
+  pub counts : old.seq ≡ length from.kept → new.seq ≡ length to.kept
 
 -- It is done: the pending entry is settled, and what the call makes is appended.
 abbrev pub Commits : {D : Type 0} → Ghosts D → (World → Entry → Type 0) → View D → View D → State → Type 0

@@ -25,7 +25,7 @@ use Rattle.bl_engine.specs.declared.refusals.TurnRefusal.{TurnRefusal}
 use Rattle.bl_engine.specs.declared.refusals.TurnRefusal.TheVariants.{BadStore, JournalFull, NoMemory, Stale, StoreFault}
 use Rattle.bl_engine.specs.declared.turned.Turned.{Turned}
 use Rattle.bl_engine.specs.declared.turned.Turned.TheVariants as told
-use Rattle.bl_engine.specs.Attempts.{Attempts, Makes}
+use Rattle.bl_engine.specs.Attempts.{Attempts, HasNoRoom, Makes}
 use Rattle.bl_engine.specs.Engines.{IsAt, Stays, View}
 use Rattle.bl_engine.specs.Calls.{Handles, Looks}
 use Rattle.bl_engine.specs.Findings.{Finds, Tells, TurnFinds, turned_by}
@@ -144,11 +144,15 @@ module _ {D : Type 0} (of : Ghosts D) (makes : World → Entry → Type 0) (engi
   abbrev makes_here : Makes of makes engine → Makes of (In engine.world makes) engine
   makes_here m = record { world = m.world; meets = m.meets; entry = m.entry; made = (m.meets.ready ready, m.made); follows = m.follows }
 
+  no_room_here : (s : State) → Stays of engine s → HasNoRoom of makes s new.journal → HasNoRoom of (In engine.world makes) s new.journal
+  no_room_here s stays n = record { entries = n.entries; settles = n.settles; ends = n.ends; world = n.world; leads = n.leads; entry = n.entry; made = (here s stays n.entries n.world n.settles n.leads, n.made); follows = n.follows; full = n.full }
+
   pub attempts_here : (outcome : Outcome) → Attempts of makes engine new outcome → Attempts of (In engine.world makes) engine new outcome
   attempts_here outcome a = record {
     commits = λ is s stays. let c = a.commits is s stays in (c.0, (c.1.0, c.1.1, c.1.2, new_here s stays c.1.0 c.1.1 c.1.2 c.1.3, c.1.4), c.2);
     breaks = λ isnt s stays. let b = a.breaks isnt s stays in (b.0, fails_here s stays b.0 b.1, b.2);
     rests = a.rests;
+    no_room = λ is s stays. no_room_here s stays (a.no_room is s stays);
     ready = a.ready;
     closed = a.closed;
     done = λ is. (makes_here (a.done is).0, (a.done is).1, (a.done is).2);

@@ -1,5 +1,6 @@
 -- Turns after turns.
-use Rattle.std.proofs.Common.{◌≡◌, ◌≢◌, ◌⊎◌, inl, inr, ⊎_elim, ℕ, ◌+◌, ◌-◌, ◌<◌, ◌≤◌, ◌^◌, Bool, true, false, cond, None, Some, refl, sym, ◌∙◌, ap, subst, arith}
+use Rattle.std.proofs.Common.{◌≡◌, ◌≢◌, ◌⊎◌, inl, inr, ⊎_elim, ℕ, ◌+◌, ◌-◌, ◌<◌, ◌≤◌, ◌^◌, Bool, true, false, cond, None, Some, Err, refl, sym, ◌∙◌, ap, subst, arith}
+use Rattle.std.specs.Prelude.{Result}
 use Rattle.std.specs.declared.option.Option.{Option}
 use Rattle.bl_outside.specs.declared.disk.Disk.{Ghosts}
 use Rattle.bl_engine.specs.declared.refusals.Trouble.{Trouble}
@@ -8,6 +9,7 @@ use Rattle.bl_engine.specs.declared.turned.Turned.TheVariants.{Ended, Idle, Plan
 use Rattle.bl_engine.specs.Calls.{Handles}
 use Rattle.bl_engine.specs.Engines.{View}
 use Rattle.bl_engine.proofs.Composed.{handles_after}
+use Rattle.bl_load.specs.declared.turn_fault.TurnFault.{TurnFault}
 use Rattle.bl_load.specs.SameJobs.{HasSameJobs}
 use Rattle.bl_load.specs.Turns.{CountsUp}
 use Rattle.bl_load.proofs.SameJobs.{same_then}
@@ -24,6 +26,15 @@ handles_none of engine = record {
   store = λ is. none_some _ is;
   bad = λ place is. none_some _ is;
 }
+
+abbrev not_drained : TurnFault → Result (Unit {0}) TurnFault
+not_drained fault = Err fault
+
+pub same_fault : (a b : TurnFault) → not_drained a ≡ not_drained b → a ≡ b
+same_fault a b is = cc
+
+abbrev pub not_turned : TurnFault → Result Turned TurnFault
+not_turned fault = Err fault
 
 -- no turn was made yet, or the engine is ready
 abbrev pub IsBegun : {D : Type 0} → View D → View D → Type 0

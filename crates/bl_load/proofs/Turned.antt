@@ -6,7 +6,6 @@ use Rattle.std.specs.List.{All}
 use Rattle.std.proofs.lemmas.Bool.{true≢false}
 use Rattle.bl_outside.specs.declared.disk.Disk.{Ghosts}
 use Rattle.bl_outside.specs.Folders.{Files}
-use Rattle.bl_journal.specs.Journals.{IsFull}
 use Rattle.bl_entry.specs.declared.entry.Entry.{Entry}
 use Rattle.bl_entry.specs.Valid.{IsEntry}
 use Rattle.bl_world.specs.Worlds.{IsWorldOf, World}
@@ -22,11 +21,13 @@ use Rattle.bl_queue.specs.Jobs.{front_job}
 use Rattle.bl_chain.specs.Folders.{AreTablesOf}
 use Rattle.bl_chain.specs.MadeEntries.{IsMade}
 use Rattle.bl_chain.specs.NextEntries.{IsTurn}
+use Rattle.bl_files.specs.declared.feed_end.FeedEnd.TheVariants as end
+use Rattle.bl_files.specs.declared.plan_result.PlanResult.TheVariants as plan
 use Rattle.bl_engine.specs.declared.refusals.Trouble.{Trouble}
 use Rattle.bl_engine.specs.declared.refusals.Trouble.TheVariants as trouble
 use Rattle.bl_engine.specs.declared.turned.Turned.{Turned}
 use Rattle.bl_engine.specs.declared.turned.Turned.TheVariants.{Ended, Idle, Planned, Rows}
-use Rattle.bl_engine.specs.Attempts.{Attempts, Makes}
+use Rattle.bl_engine.specs.Attempts.{Attempts, HasNoRoom, Makes}
 use Rattle.bl_engine.specs.Calls.{Commits, Drains, Handles, Looks, Settled}
 use Rattle.bl_engine.specs.Engines.{Stays, View}
 use Rattle.bl_engine.specs.Findings.{Tells}
@@ -34,14 +35,14 @@ use Rattle.bl_engine.specs.Outcomes.{Done, Full, Outcome, Refused, Stopped}
 use Rattle.bl_engine.proofs.Composed.{attempts_after, attempts_more}
 use Rattle.bl_engine.proofs.Drained.{drains_breaks, drains_commits, drains_none, drains_settled, drains_still}
 use Rattle.bl_load.specs.declared.prepared.Prepared.{Prepared}
-use Rattle.bl_load.specs.declared.prepared.Prepared.TheVariants.{Nothing}
+use Rattle.bl_load.specs.declared.prepared.Prepared.TheVariants.{Nothing, Plan, End, Rows as rows_of}
 use Rattle.bl_load.specs.declared.turn_fault.TurnFault.{TurnFault}
 use Rattle.bl_load.specs.declared.turn_fault.TurnFault.TheVariants as fault
 use Rattle.bl_load.specs.Committing.{In, IsNothing, PreparedEntry}
 use Rattle.bl_load.specs.Prepares.{MayCommit, Prepares, is_fault}
 use Rattle.bl_load.specs.SameJobs.{HasSameJobs}
 use Rattle.bl_load.specs.TurnFaults.{fault_from, fault_outcome, told_trouble, trouble_of}
-use Rattle.bl_load.specs.Turns.{CountsUp, DrainsOver, HasNoRoom, IsOneMore, TurnsBy, TurnsTo}
+use Rattle.bl_load.specs.Turns.{CountsUp, DrainsOver, IsOfFault, IsOneMore, MayTurn, TurnsBy, TurnsTo}
 use Rattle.bl_load.proofs.Committed.{not_idle, nothing_or, tells_made}
 use Rattle.bl_load.proofs.PreparedTurns.{prepared_are_made, prepared_are_turns}
 use Rattle.bl_load.proofs.SameJobs.{same_jobs}
@@ -78,6 +79,24 @@ not_full is = cc
 
 not_stopped : {P : Type 0} (what : Trouble) → Stopped what ≡ Done → P
 not_stopped what is = cc
+
+-- What is prepared where the folder failed becomes an entry that tells so.
+of_fault : (next : Work) (prepared : Prepared) (now : ℕ) (world : World) (entry : Entry) → is_fault prepared ≡ true → PreparedEntry next prepared now world entry → IsOfFault entry
+of_fault next Nothing now world entry is made = absurd made
+of_fault next (rows_of rows) now world entry is made = absurd (true≢false (sym is))
+of_fault (work.Plan job previous no_previous) (Plan plan.ListFault) now world entry is made = subst IsOfFault (sym made.2) (⊎_elim (λ kept. kept.1) (λ many. absurd many.1) made.1)
+of_fault work.Idle (Plan plan.ListFault) now world entry is made = absurd made
+of_fault (work.Continue job feed from) (Plan plan.ListFault) now world entry is made = absurd made
+of_fault next (Plan (plan.Feeds found)) now world entry is made = absurd (true≢false (sym is))
+of_fault next (Plan plan.NoPrevious) now world entry is made = absurd (true≢false (sym is))
+of_fault next (Plan plan.SourceNotFound) now world entry is made = absurd (true≢false (sym is))
+of_fault next (Plan (plan.TooManyFiles number)) now world entry is made = absurd (true≢false (sym is))
+of_fault work.Idle (End end.ReadError) now world entry is made = absurd made
+of_fault (work.Plan job previous no_previous) (End end.ReadError) now world entry is made = absurd made
+of_fault (work.Continue job feed from) (End end.ReadError) now world entry is made = subst IsOfFault (sym made) refl
+of_fault next (End end.Completed) now world entry is made = absurd (true≢false (sym is))
+of_fault next (End end.Modified) now world entry is made = absurd (true≢false (sym is))
+of_fault next (End (end.Stopped log)) now world entry is made = absurd (true≢false (sym is))
 
 -- ---- a look
 
@@ -138,6 +157,19 @@ module _ {D : Type 0} (of : Ghosts D) (next : Work) (prepared : Prepared) (now :
       subst (λ w. IsTurn (AreTablesOf files) w now entry) (sym made.0) (prepared_are_turns files entries mid.world now prepared entry valid leads prepares fault (made_here (Ok told) world entry made)),
       made.1.1,
     )
+
+    may_turn : (r : Result Turned TurnFault) (world : World) (entry : Entry) → Told r world entry → MayTurn files world entry
+    may_turn r world entry made = by (is_fault prepared) refl where
+      by : (b : Bool) → is_fault prepared ≡ b → MayTurn files world entry
+      by true is = inr (of_fault (work_of mid.world.kept.jobs) prepared now mid.world entry is (made_here r world entry made))
+      by false is = inl (now, subst (λ w. IsTurn (AreTablesOf files) w now entry) (sym made.0) (prepared_are_turns files entries mid.world now prepared entry valid leads prepares is (made_here r world entry made)))
+
+    pub has_no_room : (r : Result Turned TurnFault) → (¬ (IsNothing prepared) → Attempts of (Told r) mid new (fault_outcome r)) → (IsNothing prepared → ¬ (IsErrOf r fault.JournalFull))
+        → (s : State) → Stays of old s → IsErrOf r fault.JournalFull → HasNoRoom of (MayTurn files) s new.journal
+    has_no_room r attempts room s stays is = ⊎_elim
+        (λ none. absurd (room none is))
+        (λ some. (attempts_more of (Told r) (MayTurn files) old new (fault_outcome r) (may_turn r) (attempts_after of (Told r) old mid new looks ready (fault_outcome r) (attempts some))).no_room (ap (λ (x : Result Turned TurnFault). fault_outcome x) is) s stays)
+        (nothing_or prepared)
 
     -- ---- the state
 
@@ -219,8 +251,3 @@ module _ {D : Type 0} (of : Ghosts D) (next : Work) (prepared : Prepared) (now :
       let m = done.0 in
       subst (λ (w : World). HasSameJobs w.kept new.world.kept) (world_was (Ok told) m was) (same_jobs m.entry m.world.kept new.world.kept (not_idle next prepared now m.world m.entry m.made.1.0) done.1.next.kept))
       (nothing_or prepared)
-
-  pub has_no_room : (r : Result Turned TurnFault) → (¬ (IsNothing prepared) → Attempts of (Told r) mid new (fault_outcome r)) → (IsNothing prepared → ¬ (IsErrOf r fault.JournalFull)) → IsErrOf r fault.JournalFull → HasNoRoom new
-  has_no_room r attempts room is = ⊎_elim
-      (λ none. absurd (room none is))
-      (λ some. let full = (attempts some).full (ap (λ (x : Result Turned TurnFault). fault_outcome x) is) in (full.0.world, full.0.entry, full.0.follows, full.1)) (nothing_or prepared)

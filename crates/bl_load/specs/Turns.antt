@@ -1,21 +1,23 @@
 -- What turns do to the state of a store.
-use Rattle.std.specs.Prelude.{◌≡◌, ◌≢◌, ℕ, ◌+◌, ◌<◌, ◌^◌, true, List, ◌++◌, length, Contains}
+use Rattle.std.specs.Prelude.{◌≡◌, ◌≢◌, ◌⊎◌, ℕ, ◌+◌, ◌<◌, ◌^◌, true, List, ◌++◌, Contains}
 use Rattle.bl_outside.specs.declared.disk.Disk.{Ghosts}
 use Rattle.bl_outside.specs.Folders.{Files}
 use Rattle.bl_outside.specs.Sound.{Since}
-use Rattle.bl_journal.specs.Journals.{IsFull}
 use Rattle.bl_queue.specs.declared.job.Job.{Job}
 use Rattle.bl_queue.specs.declared.job_status.JobStatus.TheVariants.{CancelledByUser}
 use Rattle.bl_queue.specs.Statuses.{has_ended}
 use Rattle.bl_entry.specs.declared.entry.Entry.{Entry}
-use Rattle.bl_entry.specs.Encoding.{entry_bytes}
-use Rattle.bl_world.specs.Worlds.{Follows, World}
+use Rattle.bl_entry.specs.declared.entry.Entry.TheVariants.{Submit, Cancel, Start, Batch, FeedEnd as End}
+use Rattle.bl_files.specs.declared.feed_end.FeedEnd.TheVariants as end
+use Rattle.bl_files.specs.declared.plan_result.PlanResult.TheVariants as plan
+use Rattle.bl_world.specs.Worlds.{World}
 use Rattle.bl_world.specs.Works.{work_of}
 use Rattle.bl_world.specs.States.{IsIdle, Settles, State}
 use Rattle.bl_world.specs.declared.work.Work.TheVariants.{Idle as no_work}
 use Rattle.bl_engine.specs.declared.turned.Turned.{Turned}
 use Rattle.bl_engine.specs.declared.turned.Turned.TheVariants.{Idle, Planned, Rows, Ended}
-use Rattle.bl_engine.specs.Calls.{Commits, Drains, Settled}
+use Rattle.bl_engine.specs.Attempts.{HasNoRoom}
+use Rattle.bl_engine.specs.Calls.{Commits, Drains, Reaches, Settled}
 use Rattle.bl_engine.specs.Engines.{View}
 use Rattle.bl_engine.specs.Findings.{turned_by}
 use Rattle.bl_engine.specs.Images.{HasEntries}
@@ -44,9 +46,23 @@ TurnsTo of files now old new state (Ended status) = Commits of (TurnsBy files no
 abbrev pub DrainsOver : {D : Type 0} → Ghosts D → Files → View D → View D → State → Type 0
 DrainsOver of files old new state = Drains of (IsMade (AreTablesOf files)) old new state
 
--- an entry that may follow in some world doesn't fit behind the gate at which the journal stands
-abbrev pub HasNoRoom : {D : Type 0} → View D → Type 0
-HasNoRoom engine = (world : World) × (entry : Entry) × Follows world entry × IsFull engine.journal.place (length (entry_bytes entry))
+-- ---- an entry for which there is no room
+
+-- it tells that the folder failed
+abbrev pub IsOfFault : Entry → Type 0
+IsOfFault (Submit moment job id request) = ⊥
+IsOfFault (Cancel moment job) = ⊥
+IsOfFault (Start moment job planned) = planned ≡ plan.ListFault
+IsOfFault (Batch moment job feed from rows digest duplicates logs changes) = ⊥
+IsOfFault (End moment job feed how) = how ≡ end.ReadError
+
+-- the entry of a turn over these files at some moment, or one of a fault
+abbrev pub MayTurn : Files → World → Entry → Type 0
+MayTurn files world entry = ((now : ℕ) × IsTurn (AreTablesOf files) world now entry) ⊎ IsOfFault entry
+
+-- After some turns the entry of the next one doesn't fit into the journal.
+abbrev pub DrainsFull : {D : Type 0} → Ghosts D → Files → State → View D → Type 0
+DrainsFull of files state new = (between : State) × Reaches (IsMade (AreTablesOf files)) state between × HasNoRoom of (MayTurn files) between new.journal
 
 -- ---- how a turn leaves the engine
 

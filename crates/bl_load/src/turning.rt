@@ -5,7 +5,7 @@ ghost use Rattle.bl_outside.specs.Counts.{Rose};
 ghost use Rattle.bl_outside.specs.Folders.{Files};
 ghost use Rattle.bl_world.specs.States.{State};
 ghost use Rattle.bl_world.specs.Works.{task_of, work_of};
-ghost use Rattle.bl_engine.specs.Attempts.{Attempts};
+ghost use Rattle.bl_engine.specs.Attempts.{Attempts, HasNoRoom};
 ghost use Rattle.bl_engine.specs.Calls.{Handles, Looks};
 ghost use Rattle.bl_engine.specs.Engines.{Stays};
 ghost use Rattle.bl_engine.specs.Findings.{Tells};
@@ -17,9 +17,10 @@ ghost use Rattle.bl_load.specs.Tasks.{IsTask};
 ghost use Rattle.bl_load.specs.TurnFaults.{IsNotStale, fault_of, fault_outcome, trouble_of};
 ghost use Rattle.bl_load.specs.Turns.{
   CountsUp,
+  DrainsFull,
   DrainsOver,
-  HasNoRoom,
   IsDrained,
+  MayTurn,
   ResumesTo,
   TurnsTo,
 };
@@ -92,6 +93,7 @@ fn commit_next<D: Disk, K: Clock>(
 /// being read. Over told files, and a store that this program left:
 /// - where the folder didn't fail, it appends the one entry of a turn, or finds no work;
 /// - whatever happens, it appends an entry that is made over the files, or nothing;
+/// - the journal is full just where the entry of this turn doesn't fit into it;
 /// - a crash at any moment leaves loads that come to what one uninterrupted load comes to.
 pub fn turn<R: Threads + Sync, F: Folder, D: Disk, K: Clock, G: Gate>(
     rt: &R,
@@ -117,7 +119,10 @@ pub fn turn<R: Threads + Sync, F: Folder, D: Disk, K: Clock, G: Gate>(
     ensures files { F.files folder.new ≡ F.files folder.old }
     ensures later { F.faults folder.old ≤ F.faults folder.new }
     ensures handles { Handles ⟦<D as Disk>⟧ engine.old engine.new (trouble_of result) }
-    ensures full { IsErrOf result TurnFault.JournalFull → HasNoRoom engine.new }
+    ensures full { (files : Files) → F.files folder.old ≡ Some files → IsFresh files held.old
+        → (state : State) → Stays ⟦<D as Disk>⟧ engine.old state
+        → IsErrOf result TurnFault.JournalFull
+        → HasNoRoom ⟦<D as Disk>⟧ (MayTurn files) state engine.new.journal }
     ensures counts { IfOk result (CountsUp engine.old engine.new) }
     ensures keeps { OnOk result (engine.old.ready ≡ true
         → HasSameJobs engine.old.world.kept engine.new.world.kept) }
@@ -149,7 +154,10 @@ pub fn drain<R: Threads + Sync, F: Folder, D: Disk, K: Clock, G: Gate>(
     ensures files { F.files folder.new ≡ F.files folder.old }
     ensures later { F.faults folder.old ≤ F.faults folder.new }
     ensures handles { Handles ⟦<D as Disk>⟧ engine.old engine.new (trouble_of result) }
-    ensures full { IsErrOf result TurnFault.JournalFull → HasNoRoom engine.new }
+    ensures full { (files : Files) → F.files folder.old ≡ Some files → IsFresh files held.old
+        → (state : State) → Stays ⟦<D as Disk>⟧ engine.old state
+        → IsErrOf result TurnFault.JournalFull
+        → DrainsFull ⟦<D as Disk>⟧ files state engine.new }
     ensures keeps { OnOk result (engine.old.ready ≡ true
         → HasSameJobs engine.old.world.kept engine.new.world.kept) }
 {

@@ -1,11 +1,12 @@
-use Rattle.std.proofs.Common.{◌≡◌, ◌∙◌, None, inl, inr, refl, subst, sym, arith}
+use Rattle.std.proofs.Common.{◌≡◌, ◌∙◌, None, ap, inl, inr, refl, subst, sym, arith}
 use Rattle.std.proofs.lemmas.Result.{err_from_is_err_and}
 use Rattle.bl_chain.specs.Folders.{AreTablesOf}
 use Rattle.bl_chain.specs.MadeEntries.{IsMade}
 use Rattle.bl_engine.specs.Calls.{Handles}
 use Rattle.bl_engine.proofs.Drained.{drains_none}
 use Rattle.bl_load.specs.TurnFaults.{told_trouble, trouble_of}
-use Rattle.bl_load.proofs.Drains.{handles_none, handles_on, keeps_on, ready_after}
+use Rattle.bl_load.specs.declared.turn_fault.TurnFault.TheVariants.{JournalFull}
+use Rattle.bl_load.proofs.Drains.{handles_none, handles_on, keeps_on, not_turned, ready_after, same_fault}
 use Rattle.bl_load.proofs.ResumedLoads.{drains_then, resumes_to}
 use Rattle.bl_load.proofs.SameJobs.{same_none}
 use Rattle.bl_load.proofs.turning.drain.Goals as goal
@@ -47,6 +48,13 @@ returns-in_err-turn-clause-made g c = λ files told fresh state stays.
 pub returns-in_err-turn-clause-resumes : goal.returns-in_err-turn-clause-resumes
 returns-in_err-turn-clause-resumes g c = λ files told fresh state stays.
     resumes_to g.D.Disk files c.args.engine.now c.turn.new.engine state (returns-in_err-turn-clause-made g c files told fresh state stays)
+
+pub returns-in_err-turn-clause-full : goal.returns-in_err-turn-clause-full
+returns-in_err-turn-clause-full g c = λ files told fresh state stays is.
+    let p = err_from_is_err_and c.from_residual.result c.from_residual.ensures.1 in
+    let was = c.loop.invariant in
+    let d = was.made files told fresh state stays in
+    (d.to, d.reaches, c.in_err-turn.ensures.full files (was.files ∙ told) (was.fresh files told fresh) d.to d.stays (ap not_turned (sym p.2 ∙ same_fault p.0 JournalFull (sym p.1 ∙ is))))
 
 pub returns-in_err-turn-clause-handles : goal.returns-in_err-turn-clause-handles
 returns-in_err-turn-clause-handles g c =

@@ -55,10 +55,12 @@ returns-clause-handles g c =
     handles_after g.D.Disk c.args.engine.now c.next_task.new.engine c.commit_next.new.engine (trouble_of c.commit_next.result) c.in_ok-task.ensures.ready c.in_ok-task.ensures.looks.handles c.commit_next.ensures.handles
 
 pub returns-clause-full : goal.returns-clause-full
-returns-clause-full g c = λ is.
+returns-clause-full g c = λ files told fresh s stays.
     let task = c.in_ok-task.ensures in
+    let e = entries_at g.D.Disk c.args.engine.now c.next_task.new.engine task.looks task.ready s stays in
     has_no_room g.D.Disk c.in_ok-task.task.work c.in_ok-prepared.prepared (g.K.Clock.last c.commit_next.new.clock) c.args.engine.now c.next_task.new.engine c.commit_next.new.engine task.looks task.ready
-    (next_is c.next_task.new.engine.world.kept.jobs c.in_ok-task.task task.task) c.commit_next.result c.commit_next.ensures.attempts c.commit_next.ensures.room is
+    (next_is c.next_task.new.engine.world.kept.jobs c.in_ok-task.task task.task) files e.0 e.1 e.2 (subst (λ t. Prepares files t c.in_ok-prepared.prepared) task.task (c.in_ok-prepared.ensures.prepares files told fresh))
+    c.commit_next.result c.commit_next.ensures.attempts c.commit_next.ensures.room s stays
 
 pub returns-clause-counts : goal.returns-clause-counts
 returns-clause-counts g c =

@@ -52,4 +52,4 @@ returns-in-Err-Refused g c =
     let adds = rw c.in-Err-Refused.field-0-is at c.in-Err-Refused.ensures in
     subst (λ (v : View g.row.D.Denot). Attempts g.D.Disk (IsJust v.world c.args.entry) v new (refused_outcome c.in-Err-Refused.refusal)) c.self.view_is
     (attempts_failed g.D.Disk g.met.D.Disk.counts_now g.met.D.Disk.only_now (IsJust old.world c.args.entry) old new ready refl refl c.args.entry old.world (refl, refl) c.requires.valid begins
-    c.in-Err-Refused.refusal refl adds)
+    c.in-Err-Refused.refusal refl refl adds)

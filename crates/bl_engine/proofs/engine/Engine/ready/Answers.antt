@@ -20,4 +20,4 @@ returns-in-Ok-clause-looks g c =
     let old : View g.row.D.Denot = record { journal = c.self.inside.journal; left = c.self.inside.left; right = c.self.inside.right; world = c.self.inside.world; seq = c.self.inside.seq; ready = c.self.inside.ready } in
     let new : View g.row.D.Denot = record old { journal = c.reopen_uncounted.new.journal; world = c.in-Ok.world; seq = c.entries-self-inside.result; ready = true } in
     subst (λ (v : View g.row.D.Denot). Looks g.D.Disk v new None) c.self.view_is
-    (looks_opened g.D.Disk g.met.D.Disk.counts_now g.met.D.Disk.only_now old new c.if-self.false refl refl c.no_encoding_begins_another.ensures refl c.in-Ok.ensures)
+    (looks_opened g.D.Disk g.met.D.Disk.counts_now g.met.D.Disk.only_now old new c.if-self.false refl refl c.no_encoding_begins_another.ensures refl c.entries-self-inside.ensures c.in-Ok.ensures)

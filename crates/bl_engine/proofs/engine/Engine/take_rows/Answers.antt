@@ -27,7 +27,7 @@ returns-in-Err-NoMemory g c =
     let new : View g.row.D.Denot = record old { world = c.rows_entry.new.self; ready = false } in
     let ready : old.ready ≡ true = subst (λ (v : View g.row.D.Denot). v.ready ≡ true) (sym c.self.view_is) c.requires.ready in
     subst (λ (v : View g.row.D.Denot). Attempts g.D.Disk (Tells (RowsEntry c.args.job c.args.feed c.args.rows.now c.args.now) (failed NoMemory)) v new (Stopped starved)) c.self.view_is
-    (attempts_stopped g.D.Disk g.met.D.Disk.counts_now g.met.D.Disk.only_now (Tells (RowsEntry c.args.job c.args.feed c.args.rows.now c.args.now) (failed NoMemory)) old new ready refl refl refl refl)
+    (attempts_stopped g.D.Disk g.met.D.Disk.counts_now g.met.D.Disk.only_now (Tells (RowsEntry c.args.job c.args.feed c.args.rows.now c.args.now) (failed NoMemory)) old new ready refl refl refl refl refl)
 
 pub returns-in-Err-TooManyChanges : goal.returns-in-Err-TooManyChanges
 returns-in-Err-TooManyChanges g c =
@@ -36,7 +36,7 @@ returns-in-Err-TooManyChanges g c =
     let ready : old.ready ≡ true = subst (λ (v : View g.row.D.Denot). v.ready ≡ true) (sym c.self.view_is) c.requires.ready in
     let long : HasLongEntry c.args.job c.args.feed c.args.rows.now c.args.now old.world = c.in-Err-TooManyChanges.ensures.many (cc c.in-Err-TooManyChanges.field-0-is) in
     subst (λ (v : View g.row.D.Denot). Attempts g.D.Disk (Tells (RowsEntry c.args.job c.args.feed c.args.rows.now c.args.now) (failed full)) v new Full) c.self.view_is
-    (attempts_long g.D.Disk g.met.D.Disk.counts_now g.met.D.Disk.only_now (Tells (RowsEntry c.args.job c.args.feed c.args.rows.now c.args.now) (failed full)) old new ready refl refl refl refl long.0 long.1 long.2 (inl long.3))
+    (attempts_long g.D.Disk g.met.D.Disk.counts_now g.met.D.Disk.only_now (Tells (RowsEntry c.args.job c.args.feed c.args.rows.now c.args.now) (failed full)) old new ready refl refl refl refl refl long.0 long.1 long.2 (inl long.3))
 
 pub returns-in-Err-Untried : goal.returns-in-Err-Untried
 returns-in-Err-Untried g c =
@@ -45,7 +45,7 @@ returns-in-Err-Untried g c =
     let ready : old.ready ≡ true = subst (λ (v : View g.row.D.Denot). v.ready ≡ true) (sym c.self.view_is) c.requires.ready in
     let adds = rw c.in-Err-Untried.field-0-is at c.in-Err-Untried.ensures in
     subst (λ (v : View g.row.D.Denot). Attempts g.D.Disk (Tells (RowsEntry c.args.job c.args.feed c.args.rows.now c.args.now) (failed NoMemory)) v new (Stopped starved)) c.self.view_is
-    (attempts_stopped g.D.Disk g.met.D.Disk.counts_now g.met.D.Disk.only_now (Tells (RowsEntry c.args.job c.args.feed c.args.rows.now c.args.now) (failed NoMemory)) old new ready refl refl (adds.untried refl).0 refl)
+    (attempts_stopped g.D.Disk g.met.D.Disk.counts_now g.met.D.Disk.only_now (Tells (RowsEntry c.args.job c.args.feed c.args.rows.now c.args.now) (failed NoMemory)) old new ready refl refl (adds.untried refl).0 refl refl)
 
 pub returns-in-Err-Refused : goal.returns-in-Err-Refused
 returns-in-Err-Refused g c =
@@ -56,7 +56,7 @@ returns-in-Err-Refused g c =
     subst (λ (r : AppendRefusal). Attempts g.D.Disk (Tells (RowsEntry c.args.job c.args.feed c.args.rows.now c.args.now) (failed r)) c.args.self.now new (refused_outcome r)) (sym c.in-Err-Refused.refusal-is)
     (subst (λ (v : View g.row.D.Denot). Attempts g.D.Disk (Tells (RowsEntry c.args.job c.args.feed c.args.rows.now c.args.now) (failed c.in-Err-Refused.refusal)) v new (refused_outcome c.in-Err-Refused.refusal)) c.self.view_is
     (attempts_failed g.D.Disk g.met.D.Disk.counts_now g.met.D.Disk.only_now (Tells (RowsEntry c.args.job c.args.feed c.args.rows.now c.args.now) (failed c.in-Err-Refused.refusal)) old new ready refl refl c.in-Ok.entry c.rows_entry.new.self c.in-Ok.ensures.entry c.in-Ok.ensures.valid c.in-Ok.ensures.begun
-    c.in-Err-Refused.refusal refl adds))
+    c.in-Err-Refused.refusal refl refl adds))
 
 pub invariant_of-self-in-Ok-append_entry : goal.invariant_of-self-in-Ok-append_entry
 invariant_of-self-in-Ok-append_entry g c is =
