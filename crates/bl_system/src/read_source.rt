@@ -5,7 +5,7 @@ use bl_outside::{Failed, Source};
 use std::io::{ErrorKind, Read};
 
 // One read, again where a signal cut it short.
-fn read_some<R: Read>(reader: &mut R, room: &mut [u8]) -> Result<usize, Failed>
+pub fn read_some<R: Read>(reader: &mut R, room: &mut [u8]) -> Result<usize, Failed>
     ensures { IfOk result (λ n. n ≤ length room.old) }
 {
     for _ in 0..u64::MAX {

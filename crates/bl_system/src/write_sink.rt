@@ -3,7 +3,7 @@ use bl_outside::{Failed, Sink};
 use std::io::Write;
 
 // The whole piece, and then what the writer holds back.
-fn put_whole<W: Write>(writer: &mut W, piece: &[u8]) -> Result<(), Failed> {
+pub fn put_whole<W: Write>(writer: &mut W, piece: &[u8]) -> Result<(), Failed> {
     match writer.write_all(piece) {
         Ok(()) => {}
         Err(_) => return Err(Failed),
