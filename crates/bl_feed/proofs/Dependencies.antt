@@ -8,11 +8,6 @@ use Rattle.serde_json.specs.View.{items_view, view}
 use Rattle.serde_json.specs.declared.value.Value.{Value}
 use Rattle.bl_feed.specs.LoadBodies.{id_in, ids_in, with_id}
 
--- a text that is no identifier
-pub no_id : (read : Option (List ℕ)) → ((bytes : List ℕ) → read ≡ Some bytes → ⊥) → 0 ≡ unwrap_or (option_map (from_be_bytes w128) read) 0
-no_id None none = refl
-no_id (Some bytes) none = absurd (none bytes refl)
-
 one_more_id : (ids text : List ℕ) (others : Option (List ℕ)) → option_map (λ more. (ids ++ id_in text ∷ []) ++ more) others ≡ option_map (λ more. ids ++ more) (with_id (Some text) others)
 one_more_id ids text None = refl
 one_more_id ids text (Some more) = ap Some (append_assoc ids (id_in text ∷ []) more)

@@ -1,4 +1,5 @@
 mod Dependencies
 mod Elements
 mod NoFloats
+mod ReadNumbers
 mod PageTexts

@@ -3,3 +3,4 @@ pub mod Bodies
 pub mod StatusBodies
 pub mod PagePieces
 pub mod LoadBodies
+pub mod Parameters

@@ -1,15 +1,15 @@
 -- The body of a request for a load (Neptune User Guide, "Loader command").
-use Rattle.std.specs.Prelude.{◌≡◌, ℕ, ◌^◌, nat_eq, nat_lt, Bool, true, false, IsSome, if◌then◌else◌, codes, map, option_map, option_and_then, unwrap_or, None, Some, List, [], ◌∷◌, length, Result, Ok, Err}
+use Rattle.std.specs.Prelude.{◌≡◌, ℕ, ◌<◌, ◌^◌, All, nat_eq, nat_lt, Bool, true, false, IsSome, if◌then◌else◌, codes, map, option_and_then, unwrap_or, None, Some, List, [], ◌∷◌, length, Result, Ok, Err}
 use Rattle.std.specs.declared.option.Option.{Option}
 use Rattle.std.specs.Char.{to_ascii_lowercase}
 use Rattle.std.specs.Cmp.Lexicographic.{pointwise}
-use Rattle.std.specs.Int.{w128, from_be_bytes}
 use Rattle.std.specs.Str.{IsUtf8}
 use Rattle.serde_json.specs.Data.{Data, Items, no_items, item}
 use Rattle.serde_json.specs.Find.{as_array, as_bool, as_object, as_str, get}
 use Rattle.serde_json.specs.Read.{read}
-use Rattle.uuid.specs.Text.{parsed}
-use Rattle.bl_files.specs.Sources.{kept_source}
+use Rattle.bl_feed.specs.Bodies.{id_of}
+use Rattle.bl_files.specs.Sources.{is_kept_source, kept_source}
+use Rattle.bl_outside.specs.Texts.{IsShortText}
 use Rattle.bl_files.specs.declared.load_request.LoadRequest.{LoadRequest}
 use Rattle.bl_files.specs.declared.mode.Mode.{Mode}
 use Rattle.bl_files.specs.declared.mode.Mode.TheVariants.{New, Resume, Auto}
@@ -43,7 +43,7 @@ format_in text = if is text (codes "csv") then Some 0 else None
 
 -- A text that is no identifier of RFC 9562 is kept as the id 0, which no load has.
 abbrev pub id_in : List ℕ → ℕ
-id_in text = unwrap_or (option_map (from_be_bytes w128) (parsed text)) 0
+id_in text = unwrap_or (id_of text) 0
 
 abbrev pub with_id : Option (List ℕ) → Option (List ℕ) → Option (List ℕ)
 with_id (Some text) (Some ids) = Some (id_in text ∷ ids)
@@ -70,10 +70,10 @@ abbrev pub given_or : {A : Type 0} → A → (Data → Option A) → Option Data
 given_or default form None = Some default
 given_or default form (Some value) = form value
 
--- The member of this number is refused, or goes on to the others.
-abbrev pub needs : {A B : Type 0} → ℕ → Option A → (A → Result B ℕ) → Result B ℕ
-needs number None others = Err number
-needs number (Some value) others = others value
+-- What has this name is refused, or goes on to the others.
+abbrev pub needs : {A B E : Type 0} → E → Option A → (A → Result B E) → Result B E
+needs name None others = Err name
+needs name (Some value) others = others value
 
 -- the request, or the number of the first member that is refused
 abbrev pub request_in : Data → Result LoadRequest ℕ
@@ -102,6 +102,18 @@ pub record IsBody (text : List ℕ) (body : Data) : Type 0 where
   pub utf8 : IsUtf8 text
   pub value : read text ≡ Some body
   pub object : IsSome (as_object body)
+
+-- fewer than 2 ^ 32 items, each of which is one of these
+abbrev pub IsList : {A : Type 0} → (A → Type 0) → List A → Type 0
+IsList Is items = (length items < 2 ^ 32) × All Is items
+
+-- a load whose parts lie in their ranges
+pub record IsLoad (request : LoadRequest) : Type 0 where
+  pub text : IsShortText request.source
+  pub kept : is_kept_source request.source ≡ true
+  pub format : request.format ≡ 0
+  pub parallelism : request.parallelism < 4
+  pub dependencies : IsList (λ id. id < 2 ^ 128) request.dependencies
 
 -- what is read of a body, or why it is refused
 abbrev pub Reads : List ℕ → Result LoadRequest BodyRefusal → Type 0

@@ -19,7 +19,7 @@ ghost use Rattle.std.specs.Str.{IsUtf8};
 ghost use Rattle.serde_json.specs.View.{view};
 ghost use Rattle.bl_feed.specs.StatusBodies.{entry_data, errors_data, name_at};
 
-use crate::id_text::id_json;
+use crate::load_id::id_json;
 use crate::state::{put_number, put_text, shown_name};
 use crate::words::{code_text, message_json};
 use bl_files::{ErrorEntry, all_errors};

@@ -4,7 +4,7 @@ ghost use Rattle.serde_json.specs.Data.{string};
 ghost use Rattle.serde_json.specs.View.{view};
 ghost use Rattle.bl_feed.specs.Bodies.{id_text, ids_data, list_text, success_data};
 
-use crate::id_text::id_json;
+use crate::load_id::id_json;
 use crate::problem_body::success_value;
 use bl_outside::{List, NoMemory, Text};
 use serde_json::{Value as Json, json};

@@ -2,7 +2,7 @@
 ghost use Rattle.std.specs.Prelude.{◌≡◌, Some, IfOk, IfErr, IsSome};
 ghost use Rattle.std.specs.Str.{IsUtf8};
 ghost use Rattle.serde_json.specs.View.{view};
-ghost use Rattle.bl_feed.specs.LoadBodies.{IsBody, Reads, ReadsOf, IsNoBody};
+ghost use Rattle.bl_feed.specs.LoadBodies.{IsBody, IsLoad, Reads, ReadsOf, IsNoBody};
 
 use crate::BodyRefusal;
 use crate::load_members::{
@@ -32,7 +32,8 @@ fn object_in(alloc: Global, body: &Text) -> Result<Json, BodyRefusal>
 
 // The request of an object, or the first member that is refused.
 fn request_in(alloc: Global, body: &Json) -> Result<LoadRequest, BodyRefusal>
-    ensures { ReadsOf (view body.now) result }
+    ensures reads { ReadsOf (view body.now) result }
+    ensures valid { IfOk result IsLoad }
 {
     let source = source_at(alloc, body)?.ok_or(BodyRefusal::Member(1))?;
     let format = format_at(body).ok_or(BodyRefusal::Member(2))?;
@@ -58,7 +59,8 @@ fn request_in(alloc: Global, body: &Json) -> Result<LoadRequest, BodyRefusal>
 /// The load that a body asks for. Of two equal members the last counts, and unknown members are
 /// unused; null is a wrong form, also of a member with a default.
 pub fn read_load(alloc: Global, body: &Text) -> Result<LoadRequest, BodyRefusal>
-    ensures { Reads body.now result }
+    ensures reads { Reads body.now result }
+    ensures valid { IfOk result IsLoad }
 {
     let object = object_in(alloc, body)?;
     request_in(alloc, &object)

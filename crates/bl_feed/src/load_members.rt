@@ -1,15 +1,22 @@
 // Members of a request for a load.
 ghost use Rattle.std.specs.Prelude.{
   ◌≡◌,
+  ◌<◌,
+  ◌^◌,
   [],
+  true,
   codes,
+  All,
   IfOk,
+  IfSome,
   option_and_then,
 };
 ghost use Rattle.serde_json.specs.Find.{get};
 ghost use Rattle.serde_json.specs.View.{view, items_view};
-ghost use Rattle.bl_files.specs.Sources.{kept_source};
+ghost use Rattle.bl_files.specs.Sources.{is_kept_source, kept_source};
+ghost use Rattle.bl_outside.specs.Texts.{IsShortText};
 ghost use Rattle.bl_feed.specs.LoadBodies.{
+  IsList,
   dependencies_of,
   few,
   format_in,
@@ -23,18 +30,19 @@ ghost use Rattle.bl_feed.specs.LoadBodies.{
   truth_of,
 };
 
+use crate::load_id::read_id;
 use bl_files::{Mode, kept_source};
 use bl_outside::{List, NoMemory, Text};
 use serde_json::Value as Json;
 use std::alloc::Global;
-use uuid::Uuid;
 
-fn truth_in(text: &str) -> Option<bool>
+/// The truth value that a text is, in any letter case.
+pub fn read_truth(text: &[u8]) -> Option<bool>
     ensures { result ≡ truth_in text.now }
 {
-    if text.eq_ignore_ascii_case("true") {
+    if text.eq_ignore_ascii_case(b"true") {
         Some(true)
-    } else if text.eq_ignore_ascii_case("false") {
+    } else if text.eq_ignore_ascii_case(b"false") {
         Some(false)
     } else {
         None
@@ -47,7 +55,7 @@ fn truth_of(value: &Json) -> Option<bool>
     if let Some(truth) = value.as_bool() {
         return Some(truth);
     }
-    truth_in(value.as_str()?)
+    read_truth(value.as_str()?.as_bytes())
 }
 
 /// A truth value, or the default.
@@ -82,7 +90,8 @@ pub fn mode_at(body: &Json) -> Option<Mode>
 }
 
 fn parallelism_in(text: &str) -> Option<u8>
-    ensures { result ≡ parallelism_in text.now }
+    ensures value { result ≡ parallelism_in text.now }
+    ensures range { IfSome result (λ number. number < 4) }
 {
     match text {
         "LOW" => Some(0),
@@ -95,8 +104,9 @@ fn parallelism_in(text: &str) -> Option<u8>
 
 /// The parallelism by its number; HIGH where it is absent.
 pub fn parallelism_at(body: &Json) -> Option<u8>
-    ensures { result
+    ensures value { result
         ≡ given_or 2 (text_of parallelism_in) (get (codes "parallelism") (view body.now)) }
+    ensures range { IfSome result (λ number. number < 4) }
 {
     match body.get("parallelism") {
         None => Some(2),
@@ -105,23 +115,27 @@ pub fn parallelism_at(body: &Json) -> Option<u8>
 }
 
 fn format_in(text: &str) -> Option<u8>
-    ensures { result ≡ format_in text.now }
+    ensures value { result ≡ format_in text.now }
+    ensures csv { IfSome result (λ number. number ≡ 0) }
 {
     if text == "csv" { Some(0) } else { None }
 }
 
 /// The format by its number, which is needed.
 pub fn format_at(body: &Json) -> Option<u8>
-    ensures { result
+    ensures value { result
         ≡ option_and_then (text_of format_in) (get (codes "format") (view body.now)) }
+    ensures csv { IfSome result (λ number. number ≡ 0) }
 {
     format_in(body.get("format")?.as_str()?)
 }
 
 /// The source as it is kept, which is needed.
 pub fn source_at(alloc: Global, body: &Json) -> Result<Option<Text>, NoMemory>
-    ensures { IfOk result (λ source. source
+    ensures source { IfOk result (λ source. source
         ≡ option_and_then (text_of kept_source) (get (codes "source") (view body.now))) }
+    ensures kept { IfOk result (λ kept. IfSome kept (λ text. is_kept_source text ≡ true)) }
+    ensures text { IfOk result (λ kept. IfSome kept IsShortText) }
 {
     let Some(value) = body.get("source") else {
         return Ok(None);
@@ -135,15 +149,13 @@ pub fn source_at(alloc: Global, body: &Json) -> Result<Option<Text>, NoMemory>
 fn id_in(text: &str) -> u128
     ensures { result ≡ id_in text.now }
 {
-    match Uuid::parse_str(text) {
-        Ok(id) => id.as_u128(),
-        Err(_) => 0,
-    }
+    read_id(text.as_bytes()).unwrap_or(0)
 }
 
 // The ids of texts; none where an item is no text.
 fn ids_in(alloc: Global, texts: &[Json]) -> Result<Option<List<u128>>, NoMemory>
-    ensures { IfOk result (λ ids. ids ≡ ids_in (items_view texts.now)) }
+    ensures ids { IfOk result (λ ids. ids ≡ ids_in (items_view texts.now)) }
+    ensures range { IfOk result (λ ids. IfSome ids (All (λ id. id < 2 ^ 128))) }
 {
     let mut ids = List::new(alloc);
     for value in texts {
@@ -159,7 +171,9 @@ fn ids_in(alloc: Global, texts: &[Json]) -> Result<Option<List<u128>>, NoMemory>
 const DEPENDENCY_LIMIT: usize = 4_294_967_296;
 
 fn few(ids: List<u128>) -> Option<List<u128>>
-    ensures { result ≡ few ids }
+    requires { All (λ id. id < 2 ^ 128) ids }
+    ensures few { result ≡ few ids }
+    ensures range { IfSome result (IsList (λ id. id < 2 ^ 128)) }
 {
     if ids.len() < DEPENDENCY_LIMIT {
         Some(ids)
@@ -169,7 +183,8 @@ fn few(ids: List<u128>) -> Option<List<u128>>
 }
 
 fn dependencies_of(alloc: Global, value: &Json) -> Result<Option<List<u128>>, NoMemory>
-    ensures { IfOk result (λ ids. ids ≡ dependencies_of (view value.now)) }
+    ensures ids { IfOk result (λ ids. ids ≡ dependencies_of (view value.now)) }
+    ensures range { IfOk result (λ ids. IfSome ids (IsList (λ id. id < 2 ^ 128))) }
 {
     let Some(texts) = value.as_array() else {
         return Ok(None);
@@ -182,8 +197,9 @@ fn dependencies_of(alloc: Global, value: &Json) -> Result<Option<List<u128>>, No
 
 /// The ids of the loads that are to be completed before; none where the member is absent.
 pub fn dependencies_at(alloc: Global, body: &Json) -> Result<Option<List<u128>>, NoMemory>
-    ensures { IfOk result (λ ids. ids
+    ensures ids { IfOk result (λ ids. ids
         ≡ given_or [] dependencies_of (get (codes "dependencies") (view body.now))) }
+    ensures range { IfOk result (λ ids. IfSome ids (IsList (λ id. id < 2 ^ 128))) }
 {
     match body.get("dependencies") {
         Some(value) => dependencies_of(alloc, value),
