@@ -1,0 +1,3 @@
+mod FirstValues
+mod FoundRoutes
+mod ToldBodies

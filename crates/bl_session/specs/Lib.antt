@@ -1,0 +1,7 @@
+pub mod Routes
+pub mod Problems
+pub mod Parameters
+pub mod Asks
+pub mod Replies
+pub mod Answers
+pub mod Steps
