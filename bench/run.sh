@@ -19,7 +19,8 @@ timed() {
 
 # `open` appends first, and `convert` reads by `csv` as `records` does: what they take longer is the
 # opening, and the digests and rows. An entry here is a batch of 1,000 rows. `admit` makes its rows in
-# memory and reads no file.
+# memory and reads no file. `commit` makes the same rows, and has an engine admit them, a thousand with an
+# entry; `reopen` does so first, and what it takes longer is the opening.
 for n in "$size" $((2 * size)); do
     timed append "$n"
     timed open "$n"
@@ -27,5 +28,7 @@ for n in "$size" $((2 * size)); do
     timed convert "$n"
     timed entries $((n / 100))
     timed admit "$n"
+    timed commit "$n"
+    timed reopen "$n"
     timed requests "$n"
 done

@@ -58,7 +58,7 @@ pub fn admitted(alloc: Global, rows: u64) -> Option<Admitting>
     }
     let mut admitting = Admitting::nothing(alloc);
     for number in 0..rows {
-        let row = graph_row(alloc, number, rows).ok()?;
+        let row = graph_row(alloc, number, rows)?;
         admitting.take(&row)?;
     }
     Some(admitting)

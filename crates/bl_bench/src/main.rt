@@ -11,19 +11,27 @@
 //! | `convert` | the same rows are read, digested and converted | the same |
 //! | `entries` | a batch of 1,000 rows and 3,000 changes is decoded and encoded SIZE times | the times, and the bytes written |
 //! | `admit` | SIZE rows, half of them vertices and half edges, are admitted into a graph and their changes applied | what the rows did, and the sizes of the graph |
+//! | `commit` | the same rows are taken by an engine over disks in memory, 1,000 with a call | the rows, the entries of the store, and the sizes of the graph |
+//! | `reopen` | the same, and then the store is opened again | the same, of the engine that was opened |
 //! | `requests` | SIZE small requests are read, one behind the other | the requests, and the bytes of their paths |
 #![tactic(auto)]
 
 mod admitting;
+mod committing;
 mod counts;
 mod entries;
 mod graph_rows;
 mod journal;
+mod loaded;
+mod loading;
 mod requests;
 mod rows;
+#[cfg(test)]
+mod tests;
 
 use admitting::Admitting;
 use counts::Counts;
+use loaded::Loaded;
 use std::alloc::{AllocError, Global};
 use std::process::ExitCode;
 use std::{env, io};
@@ -33,6 +41,7 @@ use std::{env, io};
 enum Work {
     Bytes(Counts),
     Rows(Admitting),
+    Stored(Loaded),
 }
 
 // A layer that goes through bytes.
@@ -52,6 +61,8 @@ fn through_bytes(alloc: Global, layer: &str, size: u64) -> Option<Counts> {
 fn run(alloc: Global, layer: &str, size: u64) -> Option<Work> {
     match layer {
         "admit" => Some(Work::Rows(admitting::admitted(alloc, size)?)),
+        "commit" => Some(Work::Stored(committing::commit(alloc, size)?)),
+        "reopen" => Some(Work::Stored(committing::reopen(alloc, size)?)),
         _ => Some(Work::Bytes(through_bytes(alloc, layer, size)?)),
     }
 }
@@ -67,6 +78,10 @@ fn line(alloc: Global, work: &Work) -> Result<String, AllocError> {
                 done.rows, done.changes, done.duplicates, done.refused
             )
         }
+        Work::Stored(loaded) => format!(in alloc;
+            "rows {} entries {} vertices {} edges {} values {}",
+            loaded.rows, loaded.entries, loaded.vertices, loaded.edges, loaded.values
+        ),
     }
 }
 
