@@ -1,5 +1,5 @@
 -- The body of a request for a load (Neptune User Guide, "Loader command").
-use Rattle.std.specs.Prelude.{◌≡◌, ℕ, ◌<◌, ◌^◌, All, nat_eq, nat_lt, Bool, true, false, IsSome, if◌then◌else◌, codes, map, option_and_then, unwrap_or, None, Some, List, [], ◌∷◌, length, Result, Ok, Err}
+use Rattle.std.specs.Prelude.{◌≡◌, ℕ, ◌<◌, ◌^◌, nat_eq, nat_lt, Bool, true, false, IsSome, if◌then◌else◌, codes, map, option_and_then, unwrap_or, None, Some, List, [], ◌∷◌, length, Result, Ok, Err}
 use Rattle.std.specs.declared.option.Option.{Option}
 use Rattle.std.specs.Char.{to_ascii_lowercase}
 use Rattle.std.specs.Cmp.Lexicographic.{pointwise}
@@ -8,8 +8,7 @@ use Rattle.serde_json.specs.Data.{Data, Items, no_items, item}
 use Rattle.serde_json.specs.Find.{as_array, as_bool, as_object, as_str, get}
 use Rattle.serde_json.specs.Read.{read}
 use Rattle.bl_feed.specs.Bodies.{id_of}
-use Rattle.bl_files.specs.Sources.{is_kept_source, kept_source}
-use Rattle.bl_outside.specs.Texts.{IsShortText}
+use Rattle.bl_files.specs.Sources.{kept_source}
 use Rattle.bl_files.specs.declared.load_request.LoadRequest.{LoadRequest}
 use Rattle.bl_files.specs.declared.mode.Mode.{Mode}
 use Rattle.bl_files.specs.declared.mode.Mode.TheVariants.{New, Resume, Auto}
@@ -102,18 +101,6 @@ pub record IsBody (text : List ℕ) (body : Data) : Type 0 where
   pub utf8 : IsUtf8 text
   pub value : read text ≡ Some body
   pub object : IsSome (as_object body)
-
--- fewer than 2 ^ 32 items, each of which is one of these
-abbrev pub IsList : {A : Type 0} → (A → Type 0) → List A → Type 0
-IsList Is items = (length items < 2 ^ 32) × All Is items
-
--- a load whose parts lie in their ranges
-pub record IsLoad (request : LoadRequest) : Type 0 where
-  pub text : IsShortText request.source
-  pub kept : is_kept_source request.source ≡ true
-  pub format : request.format ≡ 0
-  pub parallelism : request.parallelism < 4
-  pub dependencies : IsList (λ id. id < 2 ^ 128) request.dependencies
 
 -- what is read of a body, or why it is refused
 abbrev pub Reads : List ℕ → Result LoadRequest BodyRefusal → Type 0

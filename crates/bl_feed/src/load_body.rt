@@ -2,7 +2,8 @@
 ghost use Rattle.std.specs.Prelude.{◌≡◌, Some, IfOk, IfErr, IsSome};
 ghost use Rattle.std.specs.Str.{IsUtf8};
 ghost use Rattle.serde_json.specs.View.{view};
-ghost use Rattle.bl_feed.specs.LoadBodies.{IsBody, IsLoad, Reads, ReadsOf, IsNoBody};
+ghost use Rattle.bl_entry.specs.Valid.{IsRequest};
+ghost use Rattle.bl_feed.specs.LoadBodies.{IsBody, Reads, ReadsOf, IsNoBody};
 
 use crate::BodyRefusal;
 use crate::load_members::{
@@ -33,7 +34,7 @@ fn object_in(alloc: Global, body: &Text) -> Result<Json, BodyRefusal>
 // The request of an object, or the first member that is refused.
 fn request_in(alloc: Global, body: &Json) -> Result<LoadRequest, BodyRefusal>
     ensures reads { ReadsOf (view body.now) result }
-    ensures valid { IfOk result IsLoad }
+    ensures valid { IfOk result IsRequest }
 {
     let source = source_at(alloc, body)?.ok_or(BodyRefusal::Member(1))?;
     let format = format_at(body).ok_or(BodyRefusal::Member(2))?;
@@ -60,7 +61,7 @@ fn request_in(alloc: Global, body: &Json) -> Result<LoadRequest, BodyRefusal>
 /// unused; null is a wrong form, also of a member with a default.
 pub fn read_load(alloc: Global, body: &Text) -> Result<LoadRequest, BodyRefusal>
     ensures reads { Reads body.now result }
-    ensures valid { IfOk result IsLoad }
+    ensures valid { IfOk result IsRequest }
 {
     let object = object_in(alloc, body)?;
     request_in(alloc, &object)

@@ -15,8 +15,8 @@ ghost use Rattle.serde_json.specs.Find.{get};
 ghost use Rattle.serde_json.specs.View.{view, items_view};
 ghost use Rattle.bl_files.specs.Sources.{is_kept_source, kept_source};
 ghost use Rattle.bl_outside.specs.Texts.{IsShortText};
+ghost use Rattle.bl_entry.specs.Valid.{IsList};
 ghost use Rattle.bl_feed.specs.LoadBodies.{
-  IsList,
   dependencies_of,
   few,
   format_in,

@@ -2,12 +2,13 @@
 use Rattle.std.specs.Prelude.{◌≡◌, ◌≤◌, IfSome, ℕ, Bool, true, false, if◌then◌else◌, codes, None, Some, List, Result, Ok, Err}
 use Rattle.std.specs.declared.option.Option.{Option}
 use Rattle.bl_files.specs.declared.load_request.LoadRequest.{LoadRequest}
+use Rattle.bl_entry.specs.Valid.{IsRequest}
 use Rattle.bl_stream.specs.declared.page_ask.PageAsk.{PageAsk}
 use Rattle.bl_http.specs.declared.request.Request.{Request}
 use Rattle.bl_feed.specs.declared.body_refusal.BodyRefusal.{BodyRefusal}
 use Rattle.bl_feed.specs.declared.body_refusal.BodyRefusal.TheVariants as body
 use Rattle.bl_feed.specs.declared.stream_parameter.StreamParameter.{StreamParameter}
-use Rattle.bl_feed.specs.LoadBodies.{IsLoad, Reads, id_in, needs}
+use Rattle.bl_feed.specs.LoadBodies.{Reads, id_in, needs}
 use Rattle.bl_feed.specs.Parameters.{number_or, page_asked}
 use Rattle.bl_session.specs.declared.ask.Ask.{Ask}
 use Rattle.bl_session.specs.declared.ask.Ask.TheVariants.{Submit, Cancel, List as Listing, Show, Page}
@@ -27,7 +28,7 @@ abbrev pub IsPageOfLogs : ℕ × ℕ → Type 0
 IsPageOfLogs asked = (1 ≤ asked.0) × (1 ≤ asked.1)
 
 abbrev pub IsAsk : Ask → Type 0
-IsAsk (Submit load) = IsLoad load
+IsAsk (Submit load) = IsRequest load
 IsAsk (Cancel id) = Unit {0}
 IsAsk (Listing limit queued) = Unit {0}
 IsAsk (Show id details errors) = IfSome errors IsPageOfLogs

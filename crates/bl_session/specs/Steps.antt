@@ -1,6 +1,8 @@
 -- One step of a session: a request is read, answered and its reply written.
-use Rattle.std.specs.Prelude.{◌≡◌, ◌⊎◌, ℕ, Bool, true, false, List, ◌++◌, take, None, Some, Result, Ok, Err}
+use Rattle.std.specs.Prelude.{◌≡◌, ◌⊎◌, ℕ, Bool, true, false, List, Result, Ok, Err}
 use Rattle.std.specs.declared.option.Option.{Option}
+use Rattle.bl_outside.specs.declared.refusals.Failed.{Failed}
+use Rattle.bl_outside.specs.Streams.{Puts}
 use Rattle.bl_http.specs.declared.asked.Asked.{Asked}
 use Rattle.bl_http.specs.declared.asked.Asked.TheVariants as asked
 use Rattle.bl_http.specs.declared.refusal.HeadRefusal.{HeadRefusal}
@@ -18,18 +20,13 @@ use Rattle.bl_session.specs.Replies.{ends, refusal_bytes, reply_bytes}
 
 -- ---- what was written, where it is told
 
-abbrev pub Written : Option (List ℕ) → Option (List ℕ) → (List ℕ → List ℕ → Type 0) → Type 0
-Written None now P = Unit {0}
-Written (Some old) None P = ⊥
-Written (Some old) (Some now) P = P old now
-
 -- a text was added whole
-abbrev pub Adds : List ℕ → List ℕ → List ℕ → Type 0
-Adds text old now = now ≡ old ++ text
+abbrev pub Writes : List ℕ → Option (List ℕ) → Option (List ℕ) → Type 0
+Writes text old now = Puts old now text (Ok tt)
 
 -- a front of a text was added
-abbrev pub AddsFront : List ℕ → List ℕ → List ℕ → Type 0
-AddsFront text old now = (n : ℕ) × (now ≡ old ++ take n text)
+abbrev pub WritesFront : List ℕ → Option (List ℕ) → Option (List ℕ) → Type 0
+WritesFront text old now = (failed : Failed) × Puts old now text (Err failed)
 
 -- why a request was not read
 abbrev pub fault_from : HttpFault → SessionFault
@@ -45,8 +42,8 @@ step_of false = Answered
 
 -- The reply was written whole, or a front of it.
 abbrev pub Sends : Reply → Option (List ℕ) → Option (List ℕ) → Result Step SessionFault → Type 0
-Sends reply old now (Ok step) = (step ≡ step_of (ends reply)) × Written old now (Adds (reply_bytes reply))
-Sends reply old now (Err refused) = (refused ≡ fault.WriteFault) × Written old now (AddsFront (reply_bytes reply))
+Sends reply old now (Ok step) = (step ≡ step_of (ends reply)) × Writes (reply_bytes reply) old now
+Sends reply old now (Err refused) = (refused ≡ fault.WriteFault) × WritesFront (reply_bytes reply) old now
 
 -- The desk answered the request once, and its reply is what was written.
 pub record Replies {P : Type 0} (Answers : P → Request → Reply → P → Type 0) (request : Request) (old new : P) (written now : Option (List ℕ)) (result : Result Step SessionFault) : Type 0 where
@@ -58,9 +55,9 @@ pub record Replies {P : Type 0} (Answers : P → Request → Reply → P → Typ
 
 -- The reply of the refusal was written whole, or a front of it; nothing was where no memory was there to make it.
 abbrev pub Refuses : HeadRefusal → Option (List ℕ) → Option (List ℕ) → Result (Unit {0}) SessionFault → Type 0
-Refuses refusal old now (Ok done) = Written old now (Adds (refusal_bytes refusal))
+Refuses refusal old now (Ok done) = Writes (refusal_bytes refusal) old now
 Refuses refusal old now (Err fault.ReadFault) = ⊥
-Refuses refusal old now (Err fault.WriteFault) = Written old now (AddsFront (refusal_bytes refusal))
+Refuses refusal old now (Err fault.WriteFault) = WritesFront (refusal_bytes refusal) old now
 Refuses refusal old now (Err fault.NoMemory) = now ≡ old
 
 -- the connection ends with the refusal

@@ -31,6 +31,10 @@ pub use step::{SessionFault, Step};
 pub use stepping::{refuse_head, reply_to, step_over};
 
 #[cfg(test)]
-mod test_stores;
+mod closing_tests;
 #[cfg(test)]
-mod tests;
+mod load_tests;
+#[cfg(test)]
+mod request_tests;
+#[cfg(test)]
+mod test_stores;

@@ -1,4 +1,4 @@
-// Stores over disks in memory, and requests over them.
+// Stores over disks in memory, requests over them, and their replies.
 ghost use Rattle.std.specs.Prelude.{◌≡◌, ◌<◌};
 
 use crate::{EngineDesk, SessionFault, Step, step_over};
@@ -11,6 +11,16 @@ use std::alloc::Global;
 use std::marker::Brand;
 use std::process::Abort;
 use std::sync::ledger::{Blank, Ledger};
+
+pub const LOAD: &str = "{\"source\":\"s3://b/people.csv\",\"format\":\"csv\"}";
+
+pub const LOAD_1: &str =
+    "{\"payload\":{\"loadId\":\"00000000-0000-4000-8000-000000000001\"},\"status\":\"200 OK\"}";
+
+pub const LOADS_1: &str =
+    "{\"payload\":{\"loadIds\":[\"00000000-0000-4000-8000-000000000001\"]},\"status\":\"200 OK\"}";
+
+pub const NO_LOADS: &str = "{\"payload\":{\"loadIds\":[]},\"status\":\"200 OK\"}";
 
 fn disk(alloc: Global, plan: Faults) -> Result<MemoryDisk, NoMemory> {
     MemoryDisk::new(alloc, Text::new(alloc), plan)
@@ -89,6 +99,21 @@ pub fn reply(
     )?)
 }
 
+/// The request has these bytes as its reply, and the step comes to this.
+pub fn replies<R: Abort>(
+    rt: &R,
+    alloc: Global,
+    engine: &mut Engine<MemoryDisk>,
+    request: &str,
+    want: &str,
+    came: Step,
+) {
+    let none = Faults::none(alloc);
+    let (step, text) = step(alloc, engine, request, none).expect(rt, "memory");
+    assert!(rt; step == Ok(came), "{request}");
+    assert!(rt; text.as_slice() == want.as_bytes(), "{request}");
+}
+
 /// The request has this reply, after which the connection goes on.
 pub fn says<R: Abort>(
     rt: &R,
@@ -98,11 +123,8 @@ pub fn says<R: Abort>(
     first: &str,
     body: &str,
 ) {
-    let none = Faults::none(alloc);
-    let (came, text) = step(alloc, engine, request, none).expect(rt, "memory");
     let want = reply(alloc, first, "", false, body).expect(rt, "memory");
-    assert!(rt; came == Ok(Step::Answered), "{request}");
-    assert!(rt; text.as_slice() == want.as_bytes(), "{request}");
+    replies(rt, alloc, engine, request, want.as_str(), Step::Answered);
 }
 
 /// A GET of this target has a reply with this first line and body.
@@ -131,6 +153,19 @@ pub fn deletes<R: Abort>(
     says(rt, alloc, engine, request.as_str(), first, body);
 }
 
+/// A DELETE of this target is refused with this code and message.
+pub fn delete_is_refused<R: Abort>(
+    rt: &R,
+    alloc: Global,
+    engine: &mut Engine<MemoryDisk>,
+    target: &str,
+    code: &str,
+    message: &str,
+) {
+    let body = refusal(alloc, code, message).expect(rt, "memory");
+    deletes(rt, alloc, engine, target, "400 Bad Request", body.as_str());
+}
+
 /// The same of a POST of a load with this body.
 pub fn posts<R: Abort>(
     rt: &R,
@@ -145,6 +180,19 @@ pub fn posts<R: Abort>(
         "POST /loader HTTP/1.1\r\nhost: x\r\ncontent-length: {length}\r\n\r\n{load}"
     ).expect(rt, "memory");
     says(rt, alloc, engine, request.as_str(), first, body);
+}
+
+/// A POST of a load with this body is refused with this code and message.
+pub fn load_is_refused<R: Abort>(
+    rt: &R,
+    alloc: Global,
+    engine: &mut Engine<MemoryDisk>,
+    load: &str,
+    code: &str,
+    message: &str,
+) {
+    let body = refusal(alloc, code, message).expect(rt, "memory");
+    posts(rt, alloc, engine, load, "400 Bad Request", body.as_str());
 }
 
 /// A refusal with this code and message.

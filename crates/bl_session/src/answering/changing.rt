@@ -1,6 +1,6 @@
 // Loads are taken on and cancelled.
 ghost use Rattle.std.specs.Prelude.{◌≡◌};
-ghost use Rattle.bl_feed.specs.LoadBodies.{IsLoad};
+ghost use Rattle.bl_entry.specs.Valid.{IsRequest};
 ghost use Rattle.bl_session.specs.Answers.{Cancels, Submits, cancel_problem, submit_problem};
 
 use crate::problem::Problem;
@@ -50,7 +50,7 @@ pub fn submit<D: Disk, K: Clock>(
     load: LoadRequest,
     close: bool,
 ) -> Reply
-    requires { IsLoad load }
+    requires { IsRequest load }
     ensures { Submits ⟦<D as Disk>⟧ salt load (K.last clock.new) close engine.old engine.new
         result }
 {
