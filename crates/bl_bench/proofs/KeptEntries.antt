@@ -1,5 +1,5 @@
 -- The entries of a store in memory.
-use Rattle.std.proofs.Common.{◌≡◌, ℕ, ◌+◌, true, List, [], ◌∷◌, ◌++◌, length, map, reverse, Option, None, Some, Result, Ok, Err, inl, refl, sym, ◌∙◌, ap, subst, arith}
+use Rattle.std.proofs.Common.{◌≡◌, ℕ, ◌+◌, true, List, [], ◌++◌, length, map, reverse, Option, None, Some, Result, Ok, Err, inl, refl, sym, ◌∙◌, ap, subst, arith}
 use Rattle.std.proofs.lemmas.List.{append-nil, length-map, length-reverse}
 use Rattle.bl_outside.specs.Disks.{OnlySeen}
 use Rattle.bl_outside.specs.MemoryDisks.{DiskRecord, record_leaves, record_seen}
@@ -9,11 +9,12 @@ use Rattle.bl_journal.specs.Frames.{Found, HasFrames, frames, prefixed}
 use Rattle.bl_journal.specs.Journals.{Ends, JournalRecord}
 use Rattle.bl_entry.specs.declared.entry.Entry.{Entry}
 use Rattle.bl_entry.specs.Encoding.{entry_bytes}
-use Rattle.bl_world.specs.Worlds.{IsWorldOf, World}
+use Rattle.bl_world.specs.Worlds.{World}
 use Rattle.bl_engine.specs.Attempts.{Attempts, LeavesReady}
 use Rattle.bl_engine.specs.Engines.{IsAt, View}
 use Rattle.bl_engine.specs.Images.{HasEntries, bodies_of}
 use Rattle.bl_engine.specs.Openings.{IsJudged, Opens}
+use Rattle.bl_engine.proofs.Counting.{world_counts}
 use Rattle.bl_engine.specs.Outcomes.{Outcome, Done}
 use Rattle.std.specs.Prelude.{IfSome}
 use Rattle.bl_bench.specs.Committing.{Grows, IsLoadOf, Keeps, entries_of}
@@ -28,11 +29,6 @@ adds {makes} {old} {new} {outcome} attempts is ready =
       entries = omega (arith, done.1.next.entries, ap (λ (w : World). w.entries) (done.0.meets.ready ready));
     }
 
--- a world has as many entries as it is made of
-entries_in : (entries : List Entry) (world : World) → IsWorldOf entries world → world.entries ≡ length entries
-entries_in [] world is = ap (λ (w : World). w.entries) is
-entries_in (entry ∷ older) world is = omega (arith, is.2.next.entries, entries_in older is.0 is.1)
-
 -- each image of a journal at its end has just its frames
 ends_has : (journal : JournalRecord DiskRecord) (bodies : List (List ℕ)) → Ends memory.ghosts journal bodies → (image : List ℕ) → record_leaves journal.disk image → HasFrames image bodies
 ends_has journal bodies ends image left =
@@ -42,7 +38,7 @@ ends_has journal bodies ends image left =
 pub kept : (engine : View DiskRecord) (entries : List Entry) → IsAt memory.ghosts engine entries → Keeps engine.journal.disk engine.world.entries
 kept engine entries at = (
   entries,
-  sym (entries_in entries engine.world at.world),
+  sym (world_counts entries engine.world at.world),
   λ image left. record { valid = at.valid; frames = ends_has engine.journal (bodies_of entries) at.ends image left; world = engine.world; leads = at.world },
 )
 
@@ -57,7 +53,7 @@ pub opened_again : (disk : DiskRecord) (count : ℕ) (journal : JournalRecord Di
 opened_again disk count journal world keeps opens =
     let opened = opens.opened (sound disk) in
     let same : bodies_of opened.entries ≡ bodies_of keeps.0 = ap (λ (f : Found). f.0) (sym opened.has.frames ∙ (keeps.2 opened.image opened.left).frames) in
-    entries_in opened.entries world opened.leads ∙ sym (bodies_in opened.entries) ∙ ap length same ∙ bodies_in keeps.0 ∙ keeps.1
+    world_counts opened.entries world opened.leads ∙ sym (bodies_in opened.entries) ∙ ap length same ∙ bodies_in keeps.0 ∙ keeps.1
 
 entries_found : Result World ℕ → ℕ
 entries_found (Ok world) = world.entries

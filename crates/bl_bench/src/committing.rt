@@ -40,8 +40,8 @@ fn no_store(alloc: Global) -> Option<Disks<MemoryDisk>>
     })
 }
 
-// An engine over an empty store, with a counter of its own.
-fn new_engine<L: Ledger>(
+// The engine of a store, with a counter of its own.
+fn opened<L: Ledger>(
     alloc: Global,
     disks: Disks<MemoryDisk>,
     blank: Blank,
@@ -49,27 +49,10 @@ fn new_engine<L: Ledger>(
     requires name { blank.name ≡ L.name }
     requires parts { blank.parts ≡ L.parts }
     requires some { 0 < blank.parts }
-    requires empty { record_seen disks.journal ≡ [] }
     ensures ready { IfSome result (λ engine. engine.ready ≡ true) }
-    ensures empty { IfSome result (λ engine. engine.world.entries ≡ 0) }
-{
-    let mut steps = Steps::<L>::new(blank);
-    let Ok(engine) = Engine::open_counted(alloc, 0, disks, &mut steps) else {
-        return None;
-    };
-    Some(engine)
-}
-
-// The engine of a store that keeps so many entries, with a counter of its own.
-fn old_engine<L: Ledger>(
-    alloc: Global,
-    disks: Disks<MemoryDisk>,
-    blank: Blank,
-) -> Option<Engine<MemoryDisk>>
-    requires name { blank.name ≡ L.name }
-    requires parts { blank.parts ≡ L.parts }
-    requires some { 0 < blank.parts }
-    ensures { (entries : ℕ) → Keeps disks.journal entries
+    ensures empty { record_seen disks.journal ≡ []
+        → IfSome result (λ engine. engine.world.entries ≡ 0) }
+    ensures kept { (entries : ℕ) → Keeps disks.journal entries
         → IfSome result (λ engine. engine.world.entries ≡ entries) }
 {
     let mut steps = Steps::<L>::new(blank);
@@ -86,7 +69,7 @@ fn filled(alloc: Global, rows: u32) -> Option<Stored>
     ensures keeps { IfSome result (λ stored. Keeps stored.disks.journal (entries_of rows)) }
 {
     let disks = no_store(alloc)?;
-    let mut engine = new_engine::<Brand>(alloc, disks, Blank::new(1))?;
+    let mut engine = opened::<Brand>(alloc, disks, Blank::new(1))?;
     load(alloc, &mut engine, rows)?;
     let loaded = Loaded::of(&mut engine, rows)?;
     let disks = engine.into_disks();
@@ -116,6 +99,6 @@ pub fn reopen(alloc: Global, rows: u64) -> Option<Loaded>
 {
     let rows = checked(rows)?;
     let stored = filled(alloc, rows)?;
-    let mut engine = old_engine::<Brand>(alloc, stored.disks, Blank::new(1))?;
+    let mut engine = opened::<Brand>(alloc, stored.disks, Blank::new(1))?;
     Loaded::of(&mut engine, rows)
 }

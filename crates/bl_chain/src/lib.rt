@@ -29,6 +29,3 @@ pub use laws::{
     started_jobs_are_satisfied, stores_grow, turns_are_made, turns_have_one_entry,
     two_parts_are_one_load, unchanged_stands, uncut_ends_whole, uncut_goes_on, uncut_loads_resume,
 };
-
-#[cfg(test)]
-mod tests;

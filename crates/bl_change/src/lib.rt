@@ -26,8 +26,3 @@ pub use event_text::print_event;
 pub use laws::{each_event_is_read_back, event_texts_are_json, no_two_events_have_one_text};
 pub use reading::read_event;
 pub use refusal::EventRefusal;
-
-#[cfg(test)]
-mod read_tests;
-#[cfg(test)]
-mod tests;

@@ -10,4 +10,3 @@ mod Appended
 mod Told
 mod Judged
 pub mod Drained
-mod TestRows

@@ -31,18 +31,3 @@ pub use engine::Engine;
 pub use laws::{files_are_judged_in_one_way, left_files_are_never_bad};
 pub use refusals::{CancelRefusal, SubmitRefusal, Trouble, TurnRefusal, ViewRefusal};
 pub use turned::Turned;
-
-#[cfg(test)]
-mod call_tests;
-#[cfg(test)]
-mod fault_tests;
-#[cfg(test)]
-mod lying_disk;
-#[cfg(test)]
-mod stored_tests;
-#[cfg(test)]
-mod test_calls;
-#[cfg(test)]
-mod test_loads;
-#[cfg(test)]
-mod test_stores;

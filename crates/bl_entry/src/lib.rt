@@ -30,6 +30,3 @@ pub use encoding::encode;
 pub use entry::{Entry, MOST_ROWS};
 pub use laws::no_encoding_begins_another;
 pub use refusal::EntryRefusal;
-
-#[cfg(test)]
-mod tests;

@@ -46,8 +46,3 @@ pub use status_body::status_json;
 pub use stream_parameter::StreamParameter;
 pub use success_body::{cancelled_json, submitted_json};
 pub use words::job_status_text;
-
-#[cfg(test)]
-mod parameter_tests;
-#[cfg(test)]
-mod tests;

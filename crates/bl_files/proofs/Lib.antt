@@ -3,6 +3,5 @@ pub mod FeedOrder
 pub mod CarriedFeeds
 mod CarriedNumbers
 mod RisingNames
-mod TestFeeds
 mod Parts
 mod KeptSources

@@ -47,6 +47,3 @@ pub use mode::Mode;
 pub use plan_result::PlanResult;
 pub use shown::{shown_counts, totals};
 pub use source::{is_kept_source, kept_source, path_of};
-
-#[cfg(test)]
-mod tests;

@@ -48,14 +48,3 @@ pub use verdict::Verdict;
 
 /// So many labels, or values of one owner, stand side by side. More of them are held in order.
 const FEW: usize = 16;
-
-#[cfg(test)]
-mod against_plain;
-#[cfg(test)]
-mod plain_admission;
-#[cfg(test)]
-mod seed_tests;
-#[cfg(test)]
-mod test_rows;
-#[cfg(test)]
-mod tests;

@@ -20,6 +20,3 @@ mod type_text;
 pub use header::{COLUMN_LIMIT, read_header};
 pub use laws::{names_are_read_back, type_texts_are_read_as_spelled};
 pub use refusal::HeaderRefusal;
-
-#[cfg(test)]
-mod tests;

@@ -29,6 +29,3 @@ pub use reading::{read_request, read_requests};
 pub use refusal::{HeadRefusal, HttpFault};
 pub use reply::{is_sent, reply_text};
 pub use request::Request;
-
-#[cfg(test)]
-mod tests;

@@ -16,8 +16,3 @@ mod laws;
 pub use batch_result::BatchResult;
 pub use batching::batch;
 pub use laws::two_batches_are_one;
-
-#[cfg(test)]
-mod test_rows;
-#[cfg(test)]
-mod tests;

@@ -20,6 +20,3 @@ mod refusal;
 pub use frame::{JOURNAL_LIMIT, LONGEST_BODY};
 pub use journal::Journal;
 pub use refusal::AppendRefusal;
-
-#[cfg(test)]
-mod tests;

@@ -12,7 +12,6 @@ pub mod Gathered
 pub mod Skipped
 pub mod PlannedNames
 pub mod Paired
-pub mod TestFeeds
 pub mod ToldTasks
 pub mod ToldTables
 pub mod ToldFiles

@@ -34,6 +34,3 @@ pub use prepared::Prepared;
 pub use preparing::prepare;
 pub use turn_fault::TurnFault;
 pub use turning::{drain, turn};
-
-#[cfg(test)]
-mod tests;

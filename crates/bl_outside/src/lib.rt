@@ -67,8 +67,3 @@ pub use stops::Fill;
 pub use streams::{Clock, Sink, Source};
 pub use text::Text;
 pub use utf8::is_utf8;
-
-#[cfg(test)]
-mod listener_tests;
-#[cfg(test)]
-mod tests;

@@ -40,10 +40,3 @@ pub use laws::{
     settled_jobs_are_one_list, settled_jobs_settle, settled_jobs_stay, the_last_logs_stay,
 };
 pub use taking_rows::RECORD_LIMIT;
-
-#[cfg(test)]
-mod queue_tests;
-#[cfg(test)]
-mod running_tests;
-#[cfg(test)]
-mod test_jobs;

@@ -9,7 +9,6 @@ pub mod RowFaults
 pub mod SystemCells
 pub mod ValidProperties
 pub mod RowValid
-pub mod OneColumn
 mod GatheredCells
 mod LabelItems
 pub mod ShortLabels

@@ -24,17 +24,9 @@ mod row_reader;
 mod system_cells;
 mod whole_record;
 
-pub use conversion::convert;
+pub use conversion::{convert, row_of};
 pub use file::{FILE_LIMIT, FileBytes, FileRefusal, read_file};
 pub use laws::a_record_has_one_row;
 pub use record_digest::digest_of_none;
+pub use refused::Refused;
 pub use row_reader::{RowReader, start};
-
-#[cfg(test)]
-mod csv_tests;
-#[cfg(test)]
-mod file_tests;
-#[cfg(test)]
-mod row_lines;
-#[cfg(test)]
-mod row_tests;

@@ -29,12 +29,3 @@ pub use desk::{Desk, EngineDesk};
 pub use reply::Reply;
 pub use step::{SessionFault, Step};
 pub use stepping::{refuse_head, reply_to, step_over};
-
-#[cfg(test)]
-mod closing_tests;
-#[cfg(test)]
-mod load_tests;
-#[cfg(test)]
-mod request_tests;
-#[cfg(test)]
-mod test_stores;

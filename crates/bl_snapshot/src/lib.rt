@@ -20,6 +20,3 @@ mod snapshot;
 
 pub use slots::Slots;
 pub use snapshot::Snapshot;
-
-#[cfg(test)]
-mod tests;

@@ -28,6 +28,3 @@ pub use memory_commits::MemoryCommits;
 pub use page::{Page, PageRefusal};
 pub use page_ask::{Iterator4, MOST_EVENTS, PageAsk};
 pub use stream::Stream;
-
-#[cfg(test)]
-mod tests;

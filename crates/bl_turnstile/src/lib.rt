@@ -28,6 +28,3 @@ pub use inside::Inside;
 pub use pass::Pass;
 pub use told::Told;
 pub use turnstile::Turnstile;
-
-#[cfg(test)]
-mod tests;

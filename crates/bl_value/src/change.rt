@@ -36,50 +36,84 @@ pub enum Change {
     },
 }
 
+// Copies of two texts.
+fn copied_texts(alloc: Global, one: &Text, other: &Text) -> Result<(Text, Text), NoMemory>
+    ensures { IfOk result (λ copies. (copies.0 ≡ one.now) × (copies.1 ≡ other.now)) }
+{
+    let one = one.copy(alloc)?;
+    let other = other.copy(alloc)?;
+    Ok((one, other))
+}
+
+// Copies of the id of an owner, a key and a value.
+fn copied_value(
+    alloc: Global,
+    id: &Text,
+    key: &Text,
+    value: &Value,
+) -> Result<(Text, Text, Value), NoMemory>
+    ensures { IfOk result (λ copies. (copies.0 ≡ id.now) × ((copies.1 ≡ key.now)
+        × (copies.2 ≡ value.now))) }
+{
+    let (id, key) = copied_texts(alloc, id, key)?;
+    let value = value.copy(alloc)?;
+    Ok((id, key, value))
+}
+
 impl Change {
     /// A copy with memory of its own.
     pub fn copy(&self, alloc: Global) -> Result<Change, NoMemory>
         ensures { IfOk result (λ copy. copy ≡ self.now) }
     {
-        Ok(match self {
-            Change::AddLabel { id, label } => Change::AddLabel {
-                id: id.copy(alloc)?,
-                label: label.copy(alloc)?,
-            },
+        match self {
+            Change::AddLabel { id, label } => {
+                let (id, label) = copied_texts(alloc, id, label)?;
+                Ok(Change::AddLabel { id, label })
+            }
             Change::AddEdge {
                 id,
                 label,
                 from,
                 to,
-            } => Change::AddEdge {
-                id: id.copy(alloc)?,
-                label: label.copy(alloc)?,
-                from: from.copy(alloc)?,
-                to: to.copy(alloc)?,
-            },
+            } => {
+                let (id, label) = copied_texts(alloc, id, label)?;
+                let (from, to) = copied_texts(alloc, from, to)?;
+                Ok(Change::AddEdge {
+                    id,
+                    label,
+                    from,
+                    to,
+                })
+            }
             Change::AddValue {
                 side,
                 id,
                 key,
                 value,
-            } => Change::AddValue {
-                side: *side,
-                id: id.copy(alloc)?,
-                key: key.copy(alloc)?,
-                value: value.copy(alloc)?,
-            },
+            } => {
+                let (id, key, value) = copied_value(alloc, id, key, value)?;
+                Ok(Change::AddValue {
+                    side: *side,
+                    id,
+                    key,
+                    value,
+                })
+            }
             Change::RemoveValue {
                 side,
                 id,
                 key,
                 value,
-            } => Change::RemoveValue {
-                side: *side,
-                id: id.copy(alloc)?,
-                key: key.copy(alloc)?,
-                value: value.copy(alloc)?,
-            },
-        })
+            } => {
+                let (id, key, value) = copied_value(alloc, id, key, value)?;
+                Ok(Change::RemoveValue {
+                    side: *side,
+                    id,
+                    key,
+                    value,
+                })
+            }
+        }
     }
 }
 

@@ -39,8 +39,3 @@ pub use once::{Copied, EachOnce};
 pub use row::{DigestRow, ID_LIMIT, Property, Row};
 pub use value::{FIRST_DATE, LAST_DATE, TEXT_LIMIT, Value, compare};
 pub use value_type::ValueType;
-
-#[cfg(test)]
-mod array_tests;
-#[cfg(test)]
-mod tests;

@@ -17,4 +17,3 @@ mod ListedIds
 mod RisingLogs
 mod AppliedChanges
 pub mod JobCauses
-mod TestRows

@@ -42,8 +42,3 @@ pub use rows_refusal::{MOST_CHANGES, RowsRefusal};
 pub use task::Task;
 pub use work::Work;
 pub use world::World;
-
-#[cfg(test)]
-mod test_entries;
-#[cfg(test)]
-mod tests;

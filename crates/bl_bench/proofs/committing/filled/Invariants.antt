@@ -1,4 +1,4 @@
 use Rattle.bl_bench.proofs.committing.filled.Given as goal
 
-abbrev pub ghosts-new_engine : goal.ghosts-new_engine
-ghosts-new_engine a = record { name = a.blank.name; parts = a.blank.parts }
+abbrev pub ghosts-opened : goal.ghosts-opened
+ghosts-opened a = record { name = a.blank.name; parts = a.blank.parts }

@@ -1,4 +1,4 @@
 use Rattle.bl_bench.proofs.committing.reopen.Given as goal
 
-abbrev pub ghosts-old_engine : goal.ghosts-old_engine
-ghosts-old_engine a = record { name = a.blank.name; parts = a.blank.parts }
+abbrev pub ghosts-opened : goal.ghosts-opened
+ghosts-opened a = record { name = a.blank.name; parts = a.blank.parts }

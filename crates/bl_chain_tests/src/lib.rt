@@ -1,0 +1,6 @@
+//! Tests of `bl_chain` over its public calls. They stand apart so that they are proved as any caller is,
+//! and the functions of `bl_chain` once.
+#![tactic(auto)]
+
+#[cfg(test)]
+mod tests;
