@@ -1,45 +1,18 @@
 //! The program `bl`: loads of property graph CSV, as the Neptune bulk loader makes them.
 //!
 //! `bl ROOT STORE load s3://BUCKET/KEY [options]` loads the files at `ROOT/BUCKET/KEY` into the
-//! graph that the store keeps, and prints the line of the job, with `--changes` after a line for
-//! each change. [`run`] does this over whatever outside it is handed, and its contract says what
-//! each answer means and what a crash leaves; `main` hands in the real folder, disks and streams.
-//!
-//! Words of the contracts: `specs/Words` (the command line), `specs/Runs` (how a run ends),
-//! `specs/Stores` (what it makes of the store), `specs/Loads` (a load over an engine),
-//! `specs/Outputs` (what is printed), `specs/Printing` (text that is written in pieces). What turns
-//! of the loader do is said in `bl_load`, what loads come to in `bl_chain`.
+//! graph that the store keeps. `main` hands the real folder, disks and streams to
+//! [`bl_cli::run`], whose contract says what each answer means and what a crash leaves.
 #![tactic(auto)]
 
-mod asked;
-#[cfg(test)]
-mod fault_tests;
-mod job_text;
-mod load_fault;
-mod load_option;
-mod loads;
-mod options;
-mod outputs;
-mod printing;
-#[cfg(test)]
-mod resume_tests;
-#[cfg(test)]
-mod run_tests;
-mod status;
-#[cfg(test)]
-mod test_runs;
-mod top;
-mod words;
-
+use bl_cli::{Status, run};
 use bl_outside::{Disks, FixedClock};
 use bl_system::{FileDisk, ReadSource, RealFolder, WriteSink};
-pub use status::Status;
 use std::alloc::{AllocError, Global};
 use std::env;
 use std::io::ErrorKind;
 use std::process::ExitCode;
 use std::thread::Threads;
-pub use top::run;
 
 // A slot of the store, where the store is open.
 fn slot_at(

@@ -1,5 +1,5 @@
 // Runs of the program over a folder, disks and streams in memory.
-use crate::{Status, run};
+use bl_cli::{Status, run};
 use bl_outside::{
     Disks, Faults, FixedClock, List, MemoryDisk, MemoryFolder, MemorySink, MemorySource, NoMemory,
     Text,

@@ -1,5 +1,5 @@
 // Runs whose store, folder or streams fail.
-use crate::Status;
+use bl_cli::Status;
 use crate::test_runs::{
     FOLDER_OF_TWO, Failing, FileTable, NOTHING, PEOPLE, count, folder_of, line, run_files,
     run_over, store,

@@ -1,5 +1,5 @@
 // What runs come to.
-use crate::Status;
+use bl_cli::Status;
 use crate::test_runs::{
     FOLDER_OF_TWO, FileTable, NOTHING, PEOPLE, Run, count, folder_of, go_on, line, put, run_files,
     run_over, store,

@@ -1,0 +1,12 @@
+//! Tests of `bl_cli` over its public calls. They stand apart so that they are proved as any caller is,
+//! and the functions of `bl_cli` once.
+#![tactic(auto)]
+
+#[cfg(test)]
+mod fault_tests;
+#[cfg(test)]
+mod resume_tests;
+#[cfg(test)]
+mod run_tests;
+#[cfg(test)]
+mod test_runs;
