@@ -1,5 +1,5 @@
 -- A job that has ended stays as it is.
-use Rattle.std.specs.Prelude.{◌≡◌, ℕ, zero, suc, ◌+◌, ◌-◌, ◌≤◌, ◌==◌, nat_lt, Bool, true, false, not, cond, List, [], ◌∷◌, ◌++◌, length, remove, refl, Contains, Some, ◌⊎◌}
+use Rattle.std.specs.Prelude.{◌≡◌, ℕ, zero, suc, ◌+◌, ◌-◌, ◌≤◌, ◌==◌, nat_lt, Bool, true, false, not, cond, List, [], ◌∷◌, ◌++◌, length, remove, refl, Contains, None, Some, ◌⊎◌}
 use Rattle.std.specs.List.{AllZip, position_or_len}
 use Rattle.std.proofs.Common.{sym, ap, subst, ◌∙◌, arith, inl, inr}
 use Rattle.std.proofs.lemmas.Bool.{true≢false, eqb-true}
@@ -27,24 +27,37 @@ use Rattle.bl_world.specs.Worlds.{Fits, IsKeptAfter, IsWorldOf, World}
 use Rattle.bl_world.proofs.OneWorld.{one_world}
 use Rattle.bl_world.proofs.SureWorlds.{have_jobs}
 
--- it is the same job, and where it had ended it is as it was
+-- It is the same job. Where it had ended it is as it was, and where it hasn't it has no other end log.
 pub record IsSame (old new : Job) : Type 0 where
   pub number : new.number ≡ old.number
   pub ended : has_ended old.status ≡ true → new ≡ old
+  pub log : is_unended new ≡ true → new.end_log ≡ old.end_log
 
 same_job : (job : Job) → IsSame job job
-same_job job = record { number = refl; ended = λ h. refl }
+same_job job = record { number = refl; ended = λ h. refl; log = λ h. refl }
+
+-- what hasn't ended hadn't before
+unended_before : (old new : Job) → IsSame old new → is_unended new ≡ true → is_unended old ≡ true
+unended_before old new same unended = by (has_ended old.status) refl where
+  by : (b : Bool) → has_ended old.status ≡ b → is_unended old ≡ true
+  by true is = absurd (true≢false (sym unended ∙ ap not (ap (λ (j : Job). has_ended j.status) (same.ended is) ∙ is)))
+  by false is = ap not is
 
 same_then : (a b c : Job) → IsSame a b → IsSame b c → IsSame a c
-same_then a b c one two = record { number = two.number ∙ one.number; ended = λ h. two.ended (ap (λ (j : Job). has_ended j.status) (one.ended h) ∙ h) ∙ one.ended h }
+same_then a b c one two =
+    record {
+      number = two.number ∙ one.number;
+      ended = λ h. two.ended (ap (λ (j : Job). has_ended j.status) (one.ended h) ∙ h) ∙ one.ended h;
+      log = λ h. two.log h ∙ one.log (unended_before b c two h);
+    }
 
-unended_only : (old new : Job) → new.number ≡ old.number → is_unended old ≡ true → IsSame old new
-unended_only old new number unended = record { number = number; ended = λ h. absurd (true≢false (sym unended ∙ ap not h)) }
+unended_only : (old new : Job) → new.number ≡ old.number → is_unended old ≡ true → (is_unended new ≡ true → new.end_log ≡ old.end_log) → IsSame old new
+unended_only old new number unended log = record { number = number; ended = λ h. absurd (true≢false (sym unended ∙ ap not h)); log = log }
 
 -- ---- the jobs settle
 
 fate_same : (moment : ℕ) (jobs : List Job) (old new : Job) → IsFate moment jobs old new → IsSame old new
-fate_same moment jobs old new (inl ended) = unended_only old new (ap (λ (j : Job). j.number) ended.1) ended.0.0
+fate_same moment jobs old new (inl ended) = unended_only old new (ap (λ (j : Job). j.number) ended.1) ended.0.0 (λ h. absurd (true≢false (sym h ∙ ap (λ (j : Job). is_unended j) ended.1)))
 fate_same moment jobs old new (inr same) = subst (λ x. IsSame old x) (sym same.1) (same_job old)
 
 queued_unended : (s : JobStatus) → is_in_queue s ≡ true → not (has_ended s) ≡ true
@@ -59,7 +72,7 @@ queued_unended DependencyNotSatisfied h = absurd (true≢false (sym h))
 called_same : (job : Job) → IsSame job (called_up job)
 called_same job = by (is_in_queue job.status) refl where
   by : (b : Bool) → is_in_queue job.status ≡ b → IsSame job (cond b (record job { status = NotStarted }) job)
-  by true is = unended_only job (record job { status = NotStarted }) refl (queued_unended job.status is)
+  by true is = unended_only job (record job { status = NotStarted }) refl (queued_unended job.status is) (λ h. refl)
   by false is = same_job job
 
 -- it comes from one that was there
@@ -117,22 +130,32 @@ module _ (kept : Kept) (are : AreJobs kept) where
   pub one_job : (a b : Job) → Contains kept.jobs a → Contains kept.jobs b → a.number ≡ b.number → a ≡ b
   one_job a b one two same = some_is a b (sym (there_found a one) ∙ ap (λ n. job_of n kept.jobs) same ∙ there_found b two)
 
-  -- a change of an unended job, which keeps its number
-  changed_from : (moment number : ℕ) (change : Job → Job) (new : Kept) (it : Job) → Contains kept.jobs it → it.number ≡ number → is_unended it ≡ true → ((job : Job) → (change job).number ≡ job.number) → IsChanged moment number change kept new → (y : Job) → Contains new.jobs y → ComesFrom kept.jobs y
-  changed_from moment number change new it there same unended numbers changed y h =
+  -- a change of an unended job, which keeps its number, and its end log as long as it doesn't end
+  changed_from : (moment number : ℕ) (change : Job → Job) (new : Kept) (it : Job) → Contains kept.jobs it → it.number ≡ number → is_unended it ≡ true → ((job : Job) → (change job).number ≡ job.number) → ((job : Job) → is_unended (change job) ≡ true → (change job).end_log ≡ job.end_log) → IsChanged moment number change kept new → (y : Job) → Contains new.jobs y → ComesFrom kept.jobs y
+  changed_from moment number change new it there same unended numbers logs changed y h =
       let one : ComesFrom (with_job number change kept.jobs) y = settled_from moment (with_job number change kept.jobs) changed.0 changed.1 y (subst (λ (k : Kept). Contains k.jobs y) changed.2 h) in
-      let two : ComesFrom kept.jobs one.0 = with_from number change kept.jobs (λ job in_jobs is. unended_only job (change job) (numbers job) (subst (λ (j : Job). is_unended j ≡ true) (one_job it job there in_jobs (same ∙ sym is)) unended)) one.0 one.1 in
+      let two : ComesFrom kept.jobs one.0 = with_from number change kept.jobs (λ job in_jobs is. unended_only job (change job) (numbers job) (subst (λ (j : Job). is_unended j ≡ true) (one_job it job there in_jobs (same ∙ sym is)) unended) (logs job)) one.0 one.1 in
       (two.0, two.1, same_then two.0 one.0 y two.2 one.2)
 
-  fed_from : (moment number place rows : ℕ) (change : Job → Job) (new : Kept) (it : Job) → Contains kept.jobs it → it.number ≡ number → is_unended it ≡ true → ((job : Job) → (change job).number ≡ job.number) → new ≡ record kept { jobs = with_job number change kept.jobs } → (y : Job) → Contains new.jobs y → ComesFrom kept.jobs y
-  fed_from moment number place rows change new it there same unended numbers is y h =
-      with_from number change kept.jobs (λ job in_jobs at. unended_only job (change job) (numbers job) (subst (λ (j : Job). is_unended j ≡ true) (one_job it job there in_jobs (same ∙ sym at)) unended)) y (subst (λ (k : Kept). Contains k.jobs y) is h)
+  fed_from : (moment number place rows : ℕ) (change : Job → Job) (new : Kept) (it : Job) → Contains kept.jobs it → it.number ≡ number → is_unended it ≡ true → ((job : Job) → (change job).number ≡ job.number) → ((job : Job) → is_unended (change job) ≡ true → (change job).end_log ≡ job.end_log) → new ≡ record kept { jobs = with_job number change kept.jobs } → (y : Job) → Contains new.jobs y → ComesFrom kept.jobs y
+  fed_from moment number place rows change new it there same unended numbers logs is y h =
+      with_from number change kept.jobs (λ job in_jobs at. unended_only job (change job) (numbers job) (subst (λ (j : Job). is_unended j ≡ true) (one_job it job there in_jobs (same ∙ sym at)) unended) (logs job)) y (subst (λ (k : Kept). Contains k.jobs y) is h)
 
-closed_number : (job : Job) → (closed job).number ≡ job.number
+pub closed_number : (job : Job) → (closed job).number ≡ job.number
 closed_number job = by (has_open job) where
   by : (b : Bool) → (cond b job (record job { status = whole_status job.feeds })).number ≡ job.number
   by true = refl
   by false = refl
+
+pub closed_log : (job : Job) → (closed job).end_log ≡ job.end_log
+closed_log job = by (has_open job) where
+  by : (b : Bool) → (cond b job (record job { status = whole_status job.feeds })).end_log ≡ job.end_log
+  by true = refl
+  by false = refl
+
+-- a job that has ended
+ended_log : (job new : Job) → is_unended new ≡ false → is_unended new ≡ true → new.end_log ≡ job.end_log
+ended_log job new ended unended = absurd (true≢false (sym unended ∙ ended))
 
 -- ---- a load is taken on
 
@@ -152,7 +175,12 @@ trimmed_in jobs y h = by (nat_lt most_kept (length jobs)) h where
   by true h = removed_in jobs (position_or_len (λ job. has_ended job.status) jobs) y h
   by false h = h
 
-submitted_from : (moment id : ℕ) (request : LoadRequest) (old new : Kept) → IsSubmitted moment id request old new → (y : Job) → Contains new.jobs y → ComesFrom old.jobs y ⊎ (y.number ≡ old.last + 1)
+-- it is a job that is taken on
+pub record IsFresh (kept : Kept) (job : Job) : Type 0 where
+  pub number : job.number ≡ kept.last + 1
+  pub log : is_unended job ≡ true → job.end_log ≡ None
+
+submitted_from : (moment id : ℕ) (request : LoadRequest) (old new : Kept) → IsSubmitted moment id request old new → (y : Job) → Contains new.jobs y → ComesFrom old.jobs y ⊎ IsFresh old y
 submitted_from moment id request old new submitted y h =
     let all : List Job = old.jobs ++ new_job moment (old.last + 1) id request ∷ [] in
     let cut : IsTrimmed moment all submitted.0 = submitted.1 in
@@ -160,17 +188,17 @@ submitted_from moment id request old new submitted y h =
     let one : ComesFrom all y = settled_from moment all cut.0 cut.1 y (trimmed_in cut.0 y (subst (λ l. Contains l y) cut.2 left)) in
     elim (Contains-push_cases old.jobs (new_job moment (old.last + 1) id request) one.0 one.1) [
       | inl there ↦ inl (one.0, there, one.2)
-      | inr fresh ↦ inr (one.2.number ∙ ap (λ (x : Job). x.number) (sym fresh))
+      | inr fresh ↦ inr (record { number = one.2.number ∙ ap (λ (x : Job). x.number) (sym fresh); log = λ h. one.2.log h ∙ ap (λ (x : Job). x.end_log) (sym fresh) })
     ]
 
 -- ---- any entry
 
-comes_from : (before : World) (entry : Entry) (new : Kept) → AreJobs before.kept → Fits before entry → IsKeptAfter entry before.kept new → (y : Job) → Contains new.jobs y → ComesFrom before.kept.jobs y ⊎ (y.number ≡ before.kept.last + 1)
+comes_from : (before : World) (entry : Entry) (new : Kept) → AreJobs before.kept → Fits before entry → IsKeptAfter entry before.kept new → (y : Job) → Contains new.jobs y → ComesFrom before.kept.jobs y ⊎ IsFresh before.kept y
 comes_from before (Submit moment number id request) new are fits after y h = submitted_from moment id request before.kept new after y h
 comes_from before (Cancel moment number) new are fits after y h =
     let one = some_and (job_of number before.kept.jobs) (λ it. is_unended it ≡ true) fits in
     let there = found_in number before.kept.jobs one.0 one.1 in
-    inl (changed_from before.kept are moment number (cancelled_job moment) new one.0 there.0 there.1 one.2 (λ job. refl) after y h)
+    inl (changed_from before.kept are moment number (cancelled_job moment) new one.0 there.0 there.1 one.2 (λ job. refl) (λ job. ended_log job (cancelled_job moment job) refl) after y h)
 comes_from before (Start moment number planned) new are fits after y h = inl (by planned after) where
   run : ℕ
   run = run_after (goes_on_from before.kept.jobs number)
@@ -181,15 +209,15 @@ comes_from before (Start moment number planned) new are fits after y h = inl (by
   by : (p : PlanResult) → IsStarted moment number p before.kept new → ComesFrom before.kept.jobs y
   by (plan.Feeds found) start =
       changed_from before.kept are moment number (running_job moment run previous start.0) new fits.it (front_in before.kept.jobs fits.it fits.front).0 fits.number_is (front_in before.kept.jobs fits.it fits.front).1
-      (λ job. closed_number (record job { started = moment; latest = moment; run = run; previous = previous; status = InProgress; feeds = begun job.request.fail_on_error start.0 })) start.2 y h
-  by plan.NoPrevious start = changed_from before.kept are moment number (refused_job moment run previous NoPreviousLoad) new fits.it (front_in before.kept.jobs fits.it fits.front).0 fits.number_is (front_in before.kept.jobs fits.it fits.front).1 (λ job. refl) start y h
-  by plan.SourceNotFound start = changed_from before.kept are moment number (refused_job moment run previous SourceNotFound) new fits.it (front_in before.kept.jobs fits.it fits.front).0 fits.number_is (front_in before.kept.jobs fits.it fits.front).1 (λ job. refl) start y h
-  by plan.ListFault start = changed_from before.kept are moment number (refused_job moment run previous ListFault) new fits.it (front_in before.kept.jobs fits.it fits.front).0 fits.number_is (front_in before.kept.jobs fits.it fits.front).1 (λ job. refl) start y h
-  by (plan.TooManyFiles n) start = changed_from before.kept are moment number (refused_job moment run previous TooManyFiles) new fits.it (front_in before.kept.jobs fits.it fits.front).0 fits.number_is (front_in before.kept.jobs fits.it fits.front).1 (λ job. refl) start y h
+      (λ job. closed_number (record job { started = moment; latest = moment; run = run; previous = previous; status = InProgress; feeds = begun job.request.fail_on_error start.0 })) (λ job h. closed_log (record job { started = moment; latest = moment; run = run; previous = previous; status = InProgress; feeds = begun job.request.fail_on_error start.0 })) start.2 y h
+  by plan.NoPrevious start = changed_from before.kept are moment number (refused_job moment run previous NoPreviousLoad) new fits.it (front_in before.kept.jobs fits.it fits.front).0 fits.number_is (front_in before.kept.jobs fits.it fits.front).1 (λ job. refl) (λ job. ended_log job (refused_job moment run previous NoPreviousLoad job) refl) start y h
+  by plan.SourceNotFound start = changed_from before.kept are moment number (refused_job moment run previous SourceNotFound) new fits.it (front_in before.kept.jobs fits.it fits.front).0 fits.number_is (front_in before.kept.jobs fits.it fits.front).1 (λ job. refl) (λ job. ended_log job (refused_job moment run previous SourceNotFound job) refl) start y h
+  by plan.ListFault start = changed_from before.kept are moment number (refused_job moment run previous ListFault) new fits.it (front_in before.kept.jobs fits.it fits.front).0 fits.number_is (front_in before.kept.jobs fits.it fits.front).1 (λ job. refl) (λ job. ended_log job (refused_job moment run previous ListFault job) refl) start y h
+  by (plan.TooManyFiles n) start = changed_from before.kept are moment number (refused_job moment run previous TooManyFiles) new fits.it (front_in before.kept.jobs fits.it fits.front).0 fits.number_is (front_in before.kept.jobs fits.it fits.front).1 (λ job. refl) (λ job. ended_log job (refused_job moment run previous TooManyFiles job) refl) start y h
 comes_from before (Batch moment number place from rows digest duplicates logs changes) new are fits after y h =
-    inl (fed_from before.kept are moment number place rows (fed_job moment (place - 1) rows digest duplicates logs) new fits.it (front_in before.kept.jobs fits.it fits.next.0).0 fits.next.1 (front_in before.kept.jobs fits.it fits.next.0).1 (λ job. refl) after y h)
+    inl (fed_from before.kept are moment number place rows (fed_job moment (place - 1) rows digest duplicates logs) new fits.it (front_in before.kept.jobs fits.it fits.next.0).0 fits.next.1 (front_in before.kept.jobs fits.it fits.next.0).1 (λ job. refl) (λ job h. refl) after y h)
 comes_from before (End moment number place how) new are fits after y h =
-    inl (changed_from before.kept are moment number (job_after_feed moment (place - 1) how) new fits.it (front_in before.kept.jobs fits.it fits.next.0).0 fits.next.1 (front_in before.kept.jobs fits.it fits.next.0).1 (λ job. closed_number (record job { latest = moment; feeds = feeds_after job.request.fail_on_error (place - 1) how job.feeds })) after y h)
+    inl (changed_from before.kept are moment number (job_after_feed moment (place - 1) how) new fits.it (front_in before.kept.jobs fits.it fits.next.0).0 fits.next.1 (front_in before.kept.jobs fits.it fits.next.0).1 (λ job. closed_number (record job { latest = moment; feeds = feeds_after job.request.fail_on_error (place - 1) how job.feeds })) (λ job h. closed_log (record job { latest = moment; feeds = feeds_after job.request.fail_on_error (place - 1) how job.feeds })) after y h)
 
 -- ---- the last number
 
@@ -227,10 +255,19 @@ ended_jobs_stay [] older before after one two it later there ended here same =
     one_job before.kept (have_jobs older before one) later it (subst (λ (w : World). Contains w.kept.jobs later) (one_world older after before two one) here) there same
 ended_jobs_stay (entry ∷ newer) older before after one two it later there ended here same =
     by (comes_from two.0 entry after.kept (have_jobs (newer ++ older) two.0 two.1) two.2.follows.fits two.2.next.kept later here) (λ x in_jobs is. ended_jobs_stay newer older before two.0 one two.1 it x there ended in_jobs is) where
-      by : ComesFrom two.0.kept.jobs later ⊎ (later.number ≡ two.0.kept.last + 1) → ((x : Job) → Contains two.0.kept.jobs x → x.number ≡ it.number → x ≡ it) → later ≡ it
+      by : ComesFrom two.0.kept.jobs later ⊎ IsFresh two.0.kept later → ((x : Job) → Contains two.0.kept.jobs x → x.number ≡ it.number → x ≡ it) → later ≡ it
       by (inl from) rest =
           let was : from.0 ≡ it = rest from.0 from.1 (sym from.2.number ∙ same) in
           from.2.ended (ap (λ (j : Job). has_ended j.status) was ∙ ended) ∙ was
       by (inr fresh) rest =
           let numbered : IsNumbered before.kept.last it = All-contains (λ job. IsNumbered before.kept.last job) before.kept.jobs it (have_jobs older before one).numbered there in
-          absurd (omega (arith, last_grows newer older before two.0 one two.1, numbered.most, same, fresh))
+          absurd (omega (arith, last_grows newer older before two.0 one two.1, numbered.most, same, fresh.number))
+
+-- a job that hasn't ended has no end log
+pub no_end_log : (entries : List Entry) (world : World) → IsWorldOf entries world → (job : Job) → Contains world.kept.jobs job → is_unended job ≡ true → job.end_log ≡ None
+no_end_log [] world is job there unended = no_member job (subst (λ (w : World). Contains w.kept.jobs job) is there)
+no_end_log (entry ∷ older) world is job there unended =
+    by (comes_from is.0 entry world.kept (have_jobs older is.0 is.1) is.2.follows.fits is.2.next.kept job there) (no_end_log older is.0 is.1) where
+      by : ComesFrom is.0.kept.jobs job ⊎ IsFresh is.0.kept job → ((old : Job) → Contains is.0.kept.jobs old → is_unended old ≡ true → old.end_log ≡ None) → job.end_log ≡ None
+      by (inl from) rest = from.2.log unended ∙ rest from.0 from.1 (unended_before from.0 job from.2 unended)
+      by (inr fresh) rest = fresh.log unended

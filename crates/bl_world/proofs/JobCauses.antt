@@ -1,5 +1,5 @@
 -- Each job ends by the entry that the table names.
-use Rattle.std.specs.Prelude.{◌≡◌, ℕ, ◌+◌, ◌-◌, ◌==◌, Bool, true, false, not, cond, List, [], ◌∷◌, ◌++◌, refl, Contains, ◌⊎◌}
+use Rattle.std.specs.Prelude.{◌≡◌, ℕ, ◌+◌, ◌-◌, ◌==◌, Bool, true, false, not, cond, List, [], ◌∷◌, ◌++◌, refl, Contains, None, ◌⊎◌}
 use Rattle.std.specs.List.{AllZip}
 use Rattle.std.proofs.Common.{sym, ap, subst, ◌∙◌, inl, inr}
 use Rattle.std.proofs.lemmas.Bool.{true≢false, eqb-true}
@@ -22,7 +22,7 @@ use Rattle.bl_entry.specs.declared.entry.Entry.{Entry}
 use Rattle.bl_entry.specs.declared.entry.Entry.TheVariants.{Submit, Cancel, Start, Batch, FeedEnd as End}
 use Rattle.bl_world.specs.Causes.{AreBetween, EndsBy, IsFaultOf, IsOnFilesOf, JobsEndForOneCause}
 use Rattle.bl_world.specs.Worlds.{Fits, IsKeptAfter, World, moment_of}
-use Rattle.bl_world.proofs.EndedJobs.{one_job, trimmed_in}
+use Rattle.bl_world.proofs.EndedJobs.{closed_log, closed_number, no_end_log, one_job, trimmed_in}
 use Rattle.bl_world.proofs.SureWorlds.{have_jobs}
 
 -- ---- the jobs settle
@@ -120,20 +120,18 @@ closed_ends job unended ended = by (has_open job) refl ended where
   by true is h = absurd (true≢false (sym unended ∙ ap not h))
   by false is h = (refl, is)
 
-closed_number : (job : Job) → (closed job).number ≡ job.number
-closed_number job = by (has_open job) where
-  by : (b : Bool) → (cond b job (record job { status = whole_status job.feeds })).number ≡ job.number
-  by true = refl
-  by false = refl
-
-closed_cause : (kept : Kept) (entry : Entry) (job : Job) → is_unended job ≡ true → IsOnFilesOf entry job.number → has_ended (closed job).status ≡ true → EndsBy kept entry (closed job)
-closed_cause kept entry job unended of ended =
+closed_cause : (kept : Kept) (entry : Entry) (job : Job) → is_unended job ≡ true → job.end_log ≡ None → IsOnFilesOf entry job.number → has_ended (closed job).status ≡ true → EndsBy kept entry (closed job)
+closed_cause kept entry job unended none of ended =
     let ends = closed_ends job unended ended in
-    inr (inr (inr (ends.0, ends.1, subst (IsOnFilesOf entry) (sym (closed_number job)) of)))
+    inr (inr (inr (ends.0, closed_log job ∙ none, ends.1, subst (IsOnFilesOf entry) (sym (closed_number job)) of)))
 
 -- ---- any entry
 
-module _ (before : World) (new : Kept) (are : AreJobs before.kept) where
+module _ (before : World) (new : Kept) (are : AreJobs before.kept) (none : (job : Job) → Contains before.kept.jobs job → is_unended job ≡ true → job.end_log ≡ None) where
+  -- a job with the number of an unended one is it
+  unended_at : (it : Job) → Contains before.kept.jobs it × (is_unended it ≡ true) → (old : Job) → Contains before.kept.jobs old → old.number ≡ it.number → is_unended old ≡ true
+  unended_at it front old there same = ap (λ (j : Job). is_unended j) (one_job before.kept are old it there front.0 same) ∙ front.1
+
   refused : (moment number : ℕ) (code : LogCode) (planned : PlanResult) → AreBetween (Start moment number planned) before.kept (with_job number (refused_job moment (run_after (goes_on_from before.kept.jobs number)) (number_of (goes_on_from before.kept.jobs number)) code) before.kept.jobs)
       → IsFaultOf (Start moment number planned) number → IsChanged moment number (refused_job moment (run_after (goes_on_from before.kept.jobs number)) (number_of (goes_on_from before.kept.jobs number)) code) before.kept new
       → (y : Job) → Contains new.jobs y → has_ended y.status ≡ true → Contains before.kept.jobs y ⊎ EndsBy before.kept (Start moment number planned) y
@@ -141,17 +139,17 @@ module _ (before : World) (new : Kept) (are : AreJobs before.kept) where
       changed_ended before.kept (Start moment number planned) number (refused_job moment (run_after (goes_on_from before.kept.jobs number)) (number_of (goes_on_from before.kept.jobs number)) code) between
       (λ old there same end. inr (inr (inl (refl, refl, subst (IsFaultOf (Start moment number planned)) (sym same) fault)))) new changed y h ended
 
-  started : (moment number : ℕ) (planned : PlanResult) → IsStarted moment number planned before.kept new → (y : Job) → Contains new.jobs y → has_ended y.status ≡ true → Contains before.kept.jobs y ⊎ EndsBy before.kept (Start moment number planned) y
-  started moment number (plan.Feeds found) start y h ended =
+  started : (moment number : ℕ) (planned : PlanResult) → ((old : Job) → Contains before.kept.jobs old → old.number ≡ number → old.end_log ≡ None) → IsStarted moment number planned before.kept new → (y : Job) → Contains new.jobs y → has_ended y.status ≡ true → Contains before.kept.jobs y ⊎ EndsBy before.kept (Start moment number planned) y
+  started moment number (plan.Feeds found) logs start y h ended =
       let run : ℕ = run_after (goes_on_from before.kept.jobs number) in
       let previous : ℕ = number_of (goes_on_from before.kept.jobs number) in
       changed_ended before.kept (Start moment number (plan.Feeds found)) number (running_job moment run previous start.0) (start.0, start.1, refl)
       (λ old there same end.
-      closed_cause before.kept (Start moment number (plan.Feeds found)) (record old { started = moment; latest = moment; run = run; previous = previous; status = InProgress; feeds = begun old.request.fail_on_error start.0 }) refl (sym same, tt) end) new start.2 y h ended
-  started moment number plan.NoPrevious start y h ended = refused moment number NoPreviousLoad plan.NoPrevious refl (refl, λ f. f) start y h ended
-  started moment number plan.SourceNotFound start y h ended = refused moment number SourceNotFound plan.SourceNotFound refl (refl, λ f. f) start y h ended
-  started moment number plan.ListFault start y h ended = refused moment number ListFault plan.ListFault refl (refl, λ f. f) start y h ended
-  started moment number (plan.TooManyFiles n) start y h ended = refused moment number TooManyFiles (plan.TooManyFiles n) refl (refl, λ f. f) start y h ended
+      closed_cause before.kept (Start moment number (plan.Feeds found)) (record old { started = moment; latest = moment; run = run; previous = previous; status = InProgress; feeds = begun old.request.fail_on_error start.0 }) refl (logs old there same) (sym same, tt) end) new start.2 y h ended
+  started moment number plan.NoPrevious logs start y h ended = refused moment number NoPreviousLoad plan.NoPrevious refl (refl, λ f. f) start y h ended
+  started moment number plan.SourceNotFound logs start y h ended = refused moment number SourceNotFound plan.SourceNotFound refl (refl, λ f. f) start y h ended
+  started moment number plan.ListFault logs start y h ended = refused moment number ListFault plan.ListFault refl (refl, λ f. f) start y h ended
+  started moment number (plan.TooManyFiles n) logs start y h ended = refused moment number TooManyFiles (plan.TooManyFiles n) refl (refl, λ f. f) start y h ended
 
   ends_by : (entry : Entry) → Fits before entry → IsKeptAfter entry before.kept new → (y : Job) → Contains new.jobs y → has_ended y.status ≡ true → Contains before.kept.jobs y ⊎ EndsBy before.kept entry y
   ends_by (Submit moment number id request) fits after y h ended =
@@ -169,16 +167,19 @@ module _ (before : World) (new : Kept) (are : AreJobs before.kept) where
         by (inr old) = inr (inr (inl (before.kept.jobs ++ new_job moment (before.kept.last + 1) id request ∷ [], refl, old.0, old.1, old.2, old.3)))
   ends_by (Cancel moment number) fits after y h ended =
       changed_ended before.kept (Cancel moment number) number (cancelled_job moment) refl (λ old there same end. inl (refl, sym same)) new after y h ended
-  ends_by (Start moment number planned) fits after y h ended = started moment number planned after y h ended
+  ends_by (Start moment number planned) fits after y h ended =
+      started moment number planned
+      (λ old there same. none old there (unended_at fits.it (front_in before.kept.jobs fits.it fits.front) old there (same ∙ sym fits.number_is))) after y h ended
   ends_by (Batch moment number place from rows digest duplicates logs changes) fits after y h ended =
       own_ended before.kept (Batch moment number place from rows digest duplicates logs changes) number (fed_job moment (place - 1) rows digest duplicates logs) refl
-      (λ old there same end. absurd (true≢false (sym (ap (λ (j : Job). is_unended j) (one_job before.kept are old fits.it there (front_in before.kept.jobs fits.it fits.next.0).0 (same ∙ sym fits.next.1)) ∙ (front_in before.kept.jobs fits.it fits.next.0).1) ∙ ap not end)))
+      (λ old there same end. absurd (true≢false (sym (unended_at fits.it (front_in before.kept.jobs fits.it fits.next.0) old there (same ∙ sym fits.next.1)) ∙ ap not end)))
       y (with_ended number (fed_job moment (place - 1) rows digest duplicates logs) before.kept.jobs y (subst (λ (k : Kept). Contains k.jobs y) after h)) ended
   ends_by (End moment number place how) fits after y h ended =
       changed_ended before.kept (End moment number place how) number (job_after_feed moment (place - 1) how) refl
       (λ old there same end.
+      let unended : is_unended old ≡ true = unended_at fits.it (front_in before.kept.jobs fits.it fits.next.0) old there (same ∙ sym fits.next.1) in
       closed_cause before.kept (End moment number place how) (record old { latest = moment; feeds = feeds_after old.request.fail_on_error (place - 1) how old.feeds })
-      (ap (λ (j : Job). is_unended j) (one_job before.kept are old fits.it there (front_in before.kept.jobs fits.it fits.next.0).0 (same ∙ sym fits.next.1)) ∙ (front_in before.kept.jobs fits.it fits.next.0).1) (sym same) end) new after y h ended
+      unended (none old there unended) (sym same) end) new after y h ended
 
 pub jobs_end_for_one_cause : JobsEndForOneCause
-jobs_end_for_one_cause entries entry before after of step it there ended = ends_by before after.kept (have_jobs entries before of) entry step.follows.fits step.next.kept it there ended
+jobs_end_for_one_cause entries entry before after of step it there ended = ends_by before after.kept (have_jobs entries before of) (no_end_log entries before of) entry step.follows.fits step.next.kept it there ended

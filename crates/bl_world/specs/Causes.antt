@@ -1,5 +1,5 @@
 -- How jobs end, and that they stay so.
-use Rattle.std.specs.Prelude.{◌≡◌, ◌⊎◌, ℕ, ◌+◌, ◌-◌, true, false, List, [], ◌∷◌, ◌++◌, Contains, IsSome}
+use Rattle.std.specs.Prelude.{◌≡◌, ◌⊎◌, ℕ, ◌+◌, ◌-◌, true, false, List, [], ◌∷◌, ◌++◌, Contains, None, IsSome}
 use Rattle.bl_value.specs.declared.log_code.LogCode.{LogCode}
 use Rattle.bl_value.specs.declared.log_code.LogCode.TheVariants.{ListFault, NoPreviousLoad, SourceNotFound, TooManyFiles}
 use Rattle.bl_files.specs.declared.feed.Feed.{Feed}
@@ -86,7 +86,7 @@ EndsBy kept entry it =
     ((it.status ≡ CancelledByUser) × IsCancelOf entry it.number)
     ⊎ (EndsWithOthers kept entry it
     ⊎ (((it.status ≡ Failed) × IsSome it.end_log × IsFaultOf entry it.number)
-    ⊎ ((it.status ≡ whole_status it.feeds) × (has_open it ≡ false) × IsOnFilesOf entry it.number)))
+    ⊎ ((it.status ≡ whole_status it.feeds) × (it.end_log ≡ None) × (has_open it ≡ false) × IsOnFilesOf entry it.number)))
 
 -- Each job that has ended in a world ended before, or by the entry that led to it.
 abbrev pub JobsEndForOneCause : Type 0
