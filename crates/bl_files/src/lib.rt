@@ -44,6 +44,6 @@ pub use laws::carried_feeds_are_one_list;
 pub use load_request::LoadRequest;
 pub use log::{Log, MOST_LOGS, copy_logs};
 pub use mode::Mode;
-pub use plan_result::PlanResult;
+pub use plan_result::{PlanResult, names_rise};
 pub use shown::{shown_counts, totals};
 pub use source::{is_kept_source, kept_source, path_of};

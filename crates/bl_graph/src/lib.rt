@@ -41,7 +41,7 @@ use names::Names;
 use numbered_values::NumberedValues;
 use numbers::Numbers;
 use owner::{Ends, Owners};
-use seeded::Seeded;
+pub use seeded::Seeded;
 use tables::Tables;
 use value_set::{ValueSet, is_among};
 pub use verdict::Verdict;
