@@ -6,7 +6,7 @@ use bl_engine::Engine;
 use bl_outside::MemoryDisk;
 
 /// The rows that were taken, the entries of the store, and the sizes of its graph.
-#[derive(Clone, Copy, Debug, PartialEq, Eq)]
+#[derive(Clone, Copy)]
 pub struct Loaded {
     pub rows: u32,
     pub entries: u64,

@@ -26,8 +26,6 @@ mod loaded;
 mod loading;
 mod requests;
 mod rows;
-#[cfg(test)]
-mod tests;
 
 use admitting::Admitting;
 use counts::Counts;

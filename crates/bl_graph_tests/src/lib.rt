@@ -3,10 +3,6 @@
 #![tactic(auto)]
 
 #[cfg(test)]
-mod against_plain;
-#[cfg(test)]
-mod plain_admission;
-#[cfg(test)]
 mod seed_tests;
 #[cfg(test)]
 mod test_rows;

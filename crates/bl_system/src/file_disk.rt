@@ -112,7 +112,8 @@ fn locked(file: File) -> Option<File> {
     }
 }
 
-// Fills the room as far as the file goes.
+/// Fills the room as far as the reader goes: how many bytes there were. A read that is interrupted is
+/// made again.
 pub fn fill<F: Read>(file: &mut F, room: &mut [u8]) -> Result<usize, Outside>
     ensures { IfOk result (λ n. n ≤ length room.old) }
 {

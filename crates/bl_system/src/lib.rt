@@ -14,17 +14,10 @@ mod tcp_connections;
 mod tcp_link;
 mod write_sink;
 
-pub use file_disk::FileDisk;
+pub use file_disk::{FileDisk, fill};
 pub use read_source::ReadSource;
 pub use real_folder::RealFolder;
 pub use system_clock::SystemClock;
 pub use tcp_connections::TcpConnections;
 pub use tcp_link::TcpLink;
 pub use write_sink::WriteSink;
-
-#[cfg(test)]
-mod stumbling;
-#[cfg(test)]
-mod tcp_tests;
-#[cfg(test)]
-mod tests;

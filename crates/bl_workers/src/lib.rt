@@ -13,6 +13,3 @@ mod gate;
 
 pub use converting::{FEWEST_OF_A_PIECE, convert_all};
 pub use gate::{Gate, OpenGate};
-
-#[cfg(test)]
-mod tests;

@@ -2,10 +2,10 @@
 ghost use Rattle.std.specs.Prelude.{IfOk};
 ghost use Rattle.bl_value.specs.ValidColumns.{IsColumns};
 
-use crate::{Gate, OpenGate, convert_all};
 use bl_header::{HeaderRefusal, read_header};
 use bl_outside::{List, NoMemory, Text};
 use bl_value::{Columns, Row};
+use bl_workers::{Gate, OpenGate, convert_all};
 use std::alloc::Global;
 use std::sync::atomic::{AtomicU64, Ordering};
 

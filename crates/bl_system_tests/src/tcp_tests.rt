@@ -1,6 +1,6 @@
 // Connections of sockets on this machine.
-use crate::{TcpConnections, TcpLink};
 use bl_outside::{Failed, Link, Listener, Outside, Sink, Source};
+use bl_system::{TcpConnections, TcpLink};
 use std::io::{Read, Write};
 use std::net::{Ipv4Addr, Net, SocketAddr, TcpListener, TcpStream};
 use std::time::Duration;

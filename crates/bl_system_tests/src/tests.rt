@@ -1,10 +1,9 @@
 // Each adapter once, over memory where that serves, else over a folder of the system's.
 ghost use Rattle.std.specs.Str.{IsUtf8};
 
-use crate::file_disk::fill;
 use crate::stumbling::{Stumbles, StumblingReader, StumblingWriter};
-use crate::{FileDisk, ReadSource, RealFolder, SystemClock, WriteSink};
 use bl_outside::{Clock, Disk, Failed, Folder, Listing, Outside, Piece, Sink, Source, Text};
+use bl_system::{FileDisk, ReadSource, RealFolder, SystemClock, WriteSink, fill};
 use std::alloc::{AllocError, Global};
 use std::fs::remove_dir_all;
 use std::io::Cursor;
