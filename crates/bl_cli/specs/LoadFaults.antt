@@ -86,6 +86,8 @@ status_trouble (status.BadStore place) = Some (trouble.BadStore place)
 status_trouble status.NoMemory = Some trouble.NoMemory
 status_trouble status.JournalFull = None
 status_trouble status.NumbersUsedUp = None
+status_trouble status.UnknownLoad = None
+status_trouble status.NoRecords = None
 
 -- a fault of turns
 abbrev pub IsOfTurns : LoadFault → Type 0
