@@ -1,7 +1,7 @@
 -- Words that are read are those that ask.
-use Rattle.std.specs.Prelude.{◌≡◌, ℕ, Bool, true, false, cond, codes, option_map, List, [], ◌∷◌, Some, None, refl}
+use Rattle.std.specs.Prelude.{◌≡◌, ◌≤◌, ℕ, Bool, true, false, cond, codes, length, map, option_map, List, [], ◌∷◌, Some, None, refl}
 use Rattle.std.specs.declared.option.Option.{Option}
-use Rattle.std.proofs.Common.{sym, ap, subst, ◌∙◌}
+use Rattle.std.proofs.Common.{sym, ap, subst, ◌∙◌, arith}
 use Rattle.std.proofs.lemmas.Option.{same_Some}
 use Rattle.bl_stream.specs.declared.page_ask.PageAsk.{PageAsk}
 use Rattle.bl_feed.specs.LoadBodies.{id_in}
@@ -30,6 +30,12 @@ help_is_read words is = ap is_help is
 
 abbrev some_look : Look → Option Look
 some_look what = Some what
+
+-- more than one word behind `status`
+pub no_status : {A : Type 0} (f : A → List ℕ) (items : List A) → 2 ≤ length items → None ≡ status_in (map f items)
+no_status f [] many = absurd (omega (arith, many))
+no_status f (item ∷ []) many = absurd (omega (arith, many))
+no_status f (item ∷ (other ∷ items)) many = refl
 
 status_asked : (rest : List (List ℕ)) (what : Look) → status_in rest ≡ Some what → AsksToShow (codes "status" ∷ rest) what
 status_asked [] look.Loads is = refl

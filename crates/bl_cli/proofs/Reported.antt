@@ -80,6 +80,9 @@ module _ {D : Type 0} (of : Ghosts D) (files : Option Files) (salt : ℕ) (words
       (λ (is : (result ≡ it) × Written err err' (Adds (line_of it))). (subst (λ s. IsEndOf asked s) (sym is.0) (answers.fits asked asks).0, (answers.fits asked asks).1))
       (λ (is : (result ≡ status.WriteFault) × Rose count count' × HasLine it × Written err err' (AddsFront (line_of it))). (subst (λ s. IsEndOf asked s) (sym is.0) (faulted asked), (answers.fits asked asks).1)) reports
 
+  pub run_unopened : AskForNothing words → new ≡ old
+  run_unopened nothing = (answers.unasked nothing).1
+
   pub run_usage : result ≡ status.Usage → AskForNothing words
   run_usage is = by_status (λ s. s ≡ status.Usage) (AskForNothing words) (λ none. absurd (cc (none))) answers.usage is
 

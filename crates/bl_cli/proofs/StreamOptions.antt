@@ -87,12 +87,11 @@ no_value it value (pair ∷ given) apart =
 
 all_apart : (it : StreamParameter) (value : List ℕ) (given : Pairs) → is_some (value_of it given) ≡ false → All (Differ (it, value)) given
 all_apart it value [] none = All-nil (Differ (it, value))
-all_apart it value (pair ∷ given) none = by (nat_eq (place pair.0) (place it)) refl none where
-  by : (test : Bool) → nat_eq (place pair.0) (place it) ≡ test → is_some (cond test (Some pair.1) (value_of it given)) ≡ false → All (Differ (it, value)) (pair ∷ given)
-  by true is none = absurd (true≢false none)
-  by false is none =
-      All-cons (Differ (it, value)) pair given (λ same. true≢false (sym (eq-eqb (place pair.0) (place it) (sym same)) ∙ is))
-      (all_apart it value given none)
+all_apart it value (pair ∷ given) none = by (nat_eq (place pair.0) (place it)) refl none (all_apart it value given) where
+  by : (test : Bool) → nat_eq (place pair.0) (place it) ≡ test → is_some (cond test (Some pair.1) (value_of it given)) ≡ false → (is_some (value_of it given) ≡ false → All (Differ (it, value)) given)
+      → All (Differ (it, value)) (pair ∷ given)
+  by true is none rest = absurd (true≢false none)
+  by false is none rest = All-cons (Differ (it, value)) pair given (λ same. true≢false (sym (eq-eqb (place pair.0) (place it) (sym same)) ∙ is)) (rest none)
 
 -- ---- options
 

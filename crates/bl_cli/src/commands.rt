@@ -25,7 +25,7 @@ fn status_in(words: &[String]) -> Option<Look>
     match words {
         [] => Some(Look::Loads),
         [id] => Some(Look::Load(id_in(id.as_bytes()))),
-        _ => None,
+        [_, _, ..] => None,
     }
 }
 

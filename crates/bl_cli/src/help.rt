@@ -5,15 +5,15 @@ pub const HELP: &[u8] = b"bl: loads of property graph CSV into a store, and the 
 
   bl ROOT STORE COMMAND
 
-s3://BUCKET/KEY is read at ROOT/BUCKET/KEY. STORE is a folder of the program's own.
+s3://BUCKET/KEY is read at ROOT/BUCKET/KEY; STORE is a folder for the program.
 
-  load SOURCE          load a file or the files of a folder, and print the load's line
+  load SOURCE          load a file or a folder of files, and print its line
     --mode M             NEW, RESUME or AUTO (AUTO)
     --keep-going         go on behind records that are refused
     --update-single      a new single value takes the place of the old one
     --changes            print the changes
   status               the ids of the loads, as JSON
-  status ID            one load, with its files that failed and its first errors, as JSON
+  status ID            one load, its failed files and its first errors, as JSON
   stream               a page of the change stream, as JSON
     --type T             TRIM_HORIZON, LATEST, AT_ or AFTER_SEQUENCE_NUMBER
     --commit N, --op N   the place of the last two

@@ -46,6 +46,7 @@ fn value_in(parameter: StreamParameter, words: &[String]) -> Option<&[u8]>
     ensures { option_copied result ≡ value_in parameter (map string_bytes words.now) }
 {
     match words {
+        [] | [_] => None,
         [name, value, rest @ ..] => {
             if is_word(name.as_str(), option_name(parameter)) {
                 Some(value.as_bytes())
@@ -53,7 +54,6 @@ fn value_in(parameter: StreamParameter, words: &[String]) -> Option<&[u8]>
                 value_in(parameter, rest)
             }
         }
-        _ => None,
     }
 }
 
@@ -73,8 +73,8 @@ fn are_options(words: &[String]) -> bool
 {
     match words {
         [] => true,
+        [_] => false,
         [name, _, rest @ ..] => is_new(name.as_str(), rest) && are_options(rest),
-        _ => false,
     }
 }
 

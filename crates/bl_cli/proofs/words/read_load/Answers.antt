@@ -6,7 +6,7 @@ use Rattle.bl_cli.specs.Options.{Reads, is_word}
 use Rattle.bl_cli.specs.Words.{AskForNoLoad, AsksForLoad}
 use Rattle.bl_cli.proofs.Readings.{two_words}
 use Rattle.bl_cli.proofs.GivenOptions.{asks, no_options}
-use Rattle.bl_cli.proofs.words.read_words.Goals as goal
+use Rattle.bl_cli.proofs.words.read_load.Goals as goal
 
 pub returns-in_default-read_options-clause-asked : goal.returns-in_default-read_options-clause-asked
 returns-in_default-read_options-clause-asked c =
