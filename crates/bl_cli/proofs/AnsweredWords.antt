@@ -10,7 +10,7 @@ use Rattle.bl_outside.proofs.Moments.{started}
 use Rattle.bl_journal.specs.Frames.{AsBefore}
 use Rattle.bl_queue.specs.declared.job.Job.{Job}
 use Rattle.bl_engine.specs.Images.{IsLeft}
-use Rattle.bl_cli.specs.declared.TheConstants.{HELP}
+use Rattle.bl_cli.specs.declared.help.TheConstants.{HELP}
 use Rattle.bl_cli.specs.declared.asked.Asked.{Asked}
 use Rattle.bl_cli.specs.declared.command.Command.{Command}
 use Rattle.bl_cli.specs.declared.command.Command.TheVariants as command

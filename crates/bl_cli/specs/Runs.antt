@@ -9,7 +9,7 @@ use Rattle.bl_outside.specs.declared.disks.Disks.{Disks}
 use Rattle.bl_queue.specs.declared.job.Job.{Job}
 use Rattle.bl_engine.specs.Images.{IsLeft}
 use Rattle.bl_engine.specs.Openings.{IsTold, Judges}
-use Rattle.bl_cli.specs.declared.TheConstants.{HELP}
+use Rattle.bl_cli.specs.declared.help.TheConstants.{HELP}
 use Rattle.bl_cli.specs.declared.command.Command.{Command}
 use Rattle.bl_cli.specs.declared.command.Command.TheVariants as command
 use Rattle.bl_cli.specs.declared.status.Status.{Status}

@@ -5,10 +5,10 @@ ghost use Rattle.std.specs.Str.{IsUtf8};
 ghost use Rattle.bl_value.specs.Valid.{IsPrintable};
 ghost use Rattle.bl_cli.specs.Commands.{IsLook};
 ghost use Rattle.bl_cli.specs.Shown.{
-  IsMade,
   Tells,
   job_body,
   list_body,
+  made,
   page_body,
   page_status,
   view_status,
@@ -68,7 +68,7 @@ fn page_body(alloc: Global, page: &Page) -> Result<Text, NoMemory>
 
 // The status where memory ran out.
 fn made(body: Result<Text, NoMemory>) -> Result<Text, Status>
-    ensures { IsMade body result }
+    ensures { result ≡ made body }
 {
     match body {
         Ok(body) => Ok(body),
