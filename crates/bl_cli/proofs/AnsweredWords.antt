@@ -19,14 +19,14 @@ use Rattle.bl_cli.specs.declared.status.Status.{Status}
 use Rattle.bl_cli.specs.declared.status.Status.TheVariants as status
 use Rattle.bl_cli.specs.Commands.{AskForNothing, AsksFor, AsksToShow}
 use Rattle.bl_cli.specs.Ends.{IsDone, IsNothing, IsOfLoad, IsOfShow, IsStatusOf}
-use Rattle.bl_cli.specs.LoadRuns.{LoadRuns, PrintsJob}
+use Rattle.bl_cli.specs.LoadRuns.{HasNoPlace, LoadRuns, PrintsJob}
 use Rattle.bl_cli.specs.Printing.{Adds, AddsFront, Written}
-use Rattle.bl_cli.specs.Runs.{Answers, IsEndOf, Keeps}
+use Rattle.bl_cli.specs.Runs.{Answers, FindsNoRoom, IsEndOf, Keeps, OfWords}
 use Rattle.bl_cli.specs.Shows.{HasNothing, PrintsShown, PrintsText, ShowRuns}
 use Rattle.bl_cli.specs.Stores.{IsUntouched, OfFiles, RunsOver}
 use Rattle.bl_cli.specs.Words.{AsksForLoad}
 use Rattle.bl_cli.proofs.Apart.{load_alone, show_alone, help_alone}
-use Rattle.bl_cli.proofs.MadeLoads.{of_files}
+use Rattle.bl_cli.proofs.MadeLoads.{of_files, told_files}
 
 -- ---- statuses that only some commands have
 
@@ -74,6 +74,9 @@ module _ {D : Type 0} (of : Ghosts D) (files : Option Files) (salt : ℕ) (words
     store_fault = runs.store_fault;
     bad_store = runs.bad_store;
     used_up = runs.used_up;
+    full = λ is is_left.
+        of_files files (λ told. OfWords words (λ asked. FindsNoRoom of told salt asked old new))
+        (λ told same. (command.Load load, asks, told_files files told (λ told. HasNoPlace of told salt load.request old new) same (runs.full is is_left)));
     runs = runs.runs;
     left = runs.left;
     slots = runs.slots;
@@ -94,6 +97,7 @@ module _ {D : Type 0} (of : Ghosts D) (files : Option Files) (salt : ℕ) (words
     store_fault = runs.store_fault;
     bad_store = runs.bad_store;
     used_up = λ is. absurd (subst IsOfShow is runs.ends);
+    full = λ is left. absurd (subst IsOfShow is runs.ends);
     runs = λ left. of_files files (λ told. RunsOver of told old new) (λ told is. inl (runs.untouched left.sound));
     left = λ left. of_files files (λ told. IsLeft of new) (λ told is. runs.left left);
     slots = runs.slots;
@@ -118,6 +122,7 @@ module _ {D : Type 0} (of : Ghosts D) (files : Option Files) (salt : ℕ) (words
       store_fault = λ is. absurd (cc (is));
       bad_store = λ place is. absurd (cc (is));
       used_up = λ is. absurd (cc (is));
+      full = λ is left. absurd (cc (is));
       runs = λ left. of_files files (λ told. RunsOver of told disks disks) (λ told is. inl untouched);
       left = λ left. of_files files (λ told. IsLeft of disks) (λ told is. left);
       slots = (refl, refl);
@@ -137,6 +142,7 @@ module _ {D : Type 0} (of : Ghosts D) (files : Option Files) (salt : ℕ) (words
       store_fault = λ is. absurd (cc (is));
       bad_store = λ place is. absurd (cc (is));
       used_up = λ is. absurd (cc (is));
+      full = λ is left. absurd (cc (is));
       runs = λ left. of_files files (λ told. RunsOver of told disks disks) (λ told is. inl untouched);
       left = λ left. of_files files (λ told. IsLeft of disks) (λ told is. left);
       slots = (refl, refl);
@@ -163,6 +169,7 @@ module _ {D : Type 0} (of : Ghosts D) (files : Option Files) (salt : ℕ) (words
       store_fault = λ is. absurd (cc (is));
       bad_store = λ place is. absurd (cc (is));
       used_up = λ is. absurd (cc (is));
+      full = λ is left. absurd (cc (is));
       runs = λ left. of_files files (λ told. RunsOver of told disks disks) (λ told is. inl untouched);
       left = λ left. of_files files (λ told. IsLeft of disks) (λ told is. left);
       slots = (refl, refl);
@@ -186,6 +193,7 @@ module _ {D : Type 0} (of : Ghosts D) (files : Option Files) (salt : ℕ) (words
       store_fault = λ is. absurd (cc (is));
       bad_store = λ place is. absurd (cc (is));
       used_up = λ is. absurd (cc (is));
+      full = λ is left. absurd (cc (is));
       runs = λ left. of_files files (λ told. RunsOver of told disks disks) (λ told is. inl untouched);
       left = λ left. of_files files (λ told. IsLeft of disks) (λ told is. left);
       slots = (refl, refl);

@@ -62,6 +62,14 @@ used_up fault.NoMemory is = absurd (cc (is))
 used_up fault.JournalFull is = absurd (cc (is))
 used_up fault.NumbersUsedUp is = refl
 
+no_room : (why : LoadFault) → status_of why ≡ status.JournalFull → IsErrOf {T = Job} {E = LoadFault} (Err why) fault.JournalFull
+no_room fault.WriteFault is = absurd (cc (is))
+no_room fault.StoreFault is = absurd (cc (is))
+no_room (fault.BadStore place) is = absurd (cc (is))
+no_room fault.NoMemory is = absurd (cc (is))
+no_room fault.JournalFull is = refl
+no_room fault.NumbersUsedUp is = absurd (cc (is))
+
 same_trouble : (why : LoadFault) → fault_trouble why ≡ status_trouble (status_of why)
 same_trouble fault.WriteFault = refl
 same_trouble fault.StoreFault = refl
@@ -134,6 +142,10 @@ unprinted_used : (why : Outside) → ¬ (status_of (print_fault_from why) ≡ st
 unprinted_used outside.Failed is = cc
 unprinted_used outside.NoMemory is = cc
 
+unprinted_room : (why : Outside) → ¬ (status_of (print_fault_from why) ≡ status.JournalFull)
+unprinted_room outside.Failed is = cc
+unprinted_room outside.NoMemory is = cc
+
 unprinted_cause : (was now : ℕ) (why : Outside) → HasDeviceCause {T = Unit {0}} was now (Err why) → status_of (print_fault_from why) ≡ status.WriteFault → Rose was now
 unprinted_cause was now outside.Failed cause is = cause.failed refl
 unprinted_cause was now outside.NoMemory cause is = absurd (cc (is))
@@ -160,6 +172,7 @@ module _ {D : Type 0} (of : Ghosts D) (files : Option Files) (salt : ℕ) (load 
     ends = of_load why;
     write_fault = λ is. absurd (no_write why makes.fault is);
     used_up = λ is. makes.used_up (used_up why is);
+    full = λ is. makes.full (no_room why is);
     drains = makes.drains;
     handles = subst (λ t. Handles of old new t) (same_trouble why) makes.handles;
     later = omega arith;
@@ -176,6 +189,7 @@ module _ {D : Type 0} (of : Ghosts D) (files : Option Files) (salt : ℕ) (load 
       ends = ended_load it.status ends is;
       write_fault = λ same. absurd (subst (λ s. IsStatusOf it.status s) same is);
       used_up = λ same. absurd (subst (λ s. IsStatusOf it.status s) same is);
+      full = λ same. absurd (subst (λ s. IsStatusOf it.status s) same is);
       drains = makes.drains;
       handles = subst (λ t. Handles of old new t) (no_trouble it.status ends is) makes.handles;
       later = later;
@@ -191,6 +205,7 @@ module _ {D : Type 0} (of : Ghosts D) (files : Option Files) (salt : ℕ) (load 
       ends = of_load (print_fault_from why);
       write_fault = unprinted_cause was now why cause;
       used_up = λ is. absurd (unprinted_used why is);
+      full = λ is. absurd (unprinted_room why is);
       drains = makes.drains;
       handles = handles_unprinted of old new why makes.handles;
       later = cause.later;

@@ -16,8 +16,9 @@ use Rattle.bl_cli.specs.declared.status.Status.TheVariants as status
 use Rattle.bl_cli.specs.Printing.{Adds, AddsFront, Written}
 use Rattle.bl_cli.specs.Ends.{HasLine, IsCalm, IsCalmEnd, IsDone, IsNothing, IsQuiet, IsUnasked, MayHaveBegun}
 use Rattle.bl_cli.specs.LoadRuns.{IsUsedUp}
-use Rattle.bl_cli.specs.Runs.{Answers, FindsNothing, HasReported, IsBegun, IsCarriedOut, IsEndOf, Keeps, OfWords, Reports}
+use Rattle.bl_cli.specs.Runs.{Answers, FindsNoRoom, FindsNothing, HasReported, IsBegun, IsCarriedOut, IsEndOf, Keeps, OfWords, Reports}
 use Rattle.bl_cli.specs.Statuses.{line_of}
+use Rattle.bl_cli.specs.Stores.{OfFiles}
 use Rattle.bl_cli.specs.Commands.{AskForNothing, AsksFor}
 
 -- a status with a line printed nothing, or may have begun to
@@ -96,6 +97,10 @@ module _ {D : Type 0} (of : Ghosts D) (files : Option Files) (salt : ℕ) (words
 
   pub run_bad : (place : ℕ) → result ≡ status.BadStore place → IsTold of old.journal → Judges (of.seen old.journal) (Err place)
   run_bad place is = by_status (λ s. s ≡ status.BadStore place) (IsTold of old.journal → Judges (of.seen old.journal) (Err place)) (λ none. absurd (cc (none))) (answers.bad_store place) is
+
+  pub run_full : result ≡ status.JournalFull → IsLeft of old → OfFiles files (λ told. OfWords words (λ asked. FindsNoRoom of told salt asked old new))
+  run_full is =
+      by_status (λ s. s ≡ status.JournalFull) (IsLeft of old → OfFiles files (λ told. OfWords words (λ asked. FindsNoRoom of told salt asked old new))) (λ none. absurd (cc (none))) answers.full is
 
   pub run_used : result ≡ status.NumbersUsedUp → IsUsedUp of old
   run_used is = by_status (λ s. s ≡ status.NumbersUsedUp) (IsUsedUp of old) (λ none. absurd (cc (none))) answers.used_up is

@@ -98,6 +98,15 @@ IsOfTurns fault.NoMemory = Unit {0}
 IsOfTurns fault.JournalFull = Unit {0}
 IsOfTurns fault.NumbersUsedUp = ⊥
 
+-- a fault of a look at the store
+abbrev pub IsOfLook : LoadFault → Type 0
+IsOfLook fault.WriteFault = ⊥
+IsOfLook fault.StoreFault = Unit {0}
+IsOfLook (fault.BadStore place) = Unit {0}
+IsOfLook fault.NoMemory = Unit {0}
+IsOfLook fault.JournalFull = ⊥
+IsOfLook fault.NumbersUsedUp = ⊥
+
 -- one that isn't of the output
 abbrev pub IsOfStore : LoadFault → Type 0
 IsOfStore fault.WriteFault = ⊥

@@ -13,10 +13,10 @@ use Rattle.bl_cli.specs.declared.help.TheConstants.{HELP}
 use Rattle.bl_cli.specs.declared.command.Command.{Command}
 use Rattle.bl_cli.specs.declared.command.Command.TheVariants as command
 use Rattle.bl_cli.specs.declared.status.Status.{Status}
-use Rattle.bl_cli.specs.declared.status.Status.TheVariants.{Ok, Usage, WriteFault, StoreFault, BadStore, NumbersUsedUp}
+use Rattle.bl_cli.specs.declared.status.Status.TheVariants.{Ok, Usage, WriteFault, StoreFault, BadStore, JournalFull, NumbersUsedUp}
 use Rattle.bl_cli.specs.Commands.{AskForNothing, AsksFor}
 use Rattle.bl_cli.specs.Ends.{HasLine, IsDone, IsNothing, IsOfHelp, IsOfLoad, IsOfShow, IsQuiet, IsStatusOf, IsUnasked, MayHaveBegun}
-use Rattle.bl_cli.specs.LoadRuns.{IsUsedUp, PrintsJob}
+use Rattle.bl_cli.specs.LoadRuns.{HasNoPlace, IsUsedUp, PrintsJob}
 use Rattle.bl_cli.specs.Printing.{Adds, AddsFront, Written}
 use Rattle.bl_cli.specs.Shows.{HasNothing, PrintsShown}
 use Rattle.bl_cli.specs.Statuses.{line_of}
@@ -41,6 +41,12 @@ abbrev pub FindsNothing : {D : Type 0} → Ghosts D → Command → Disks D → 
 FindsNothing of (command.Load load) disks status = ⊥
 FindsNothing of (command.Show what) disks status = HasNothing of what disks status
 FindsNothing of command.Help disks status = ⊥
+
+-- A load's next entry had no room in the journal.
+abbrev pub FindsNoRoom : {D : Type 0} → Ghosts D → Files → ℕ → Command → Disks D → Disks D → Type 0
+FindsNoRoom of files salt (command.Load load) old new = HasNoPlace of files salt load.request old new
+FindsNoRoom of files salt (command.Show what) old new = ⊥
+FindsNoRoom of files salt command.Help old new = ⊥
 
 -- the statuses that it may have
 abbrev pub IsEndOf : Command → Status → Type 0
@@ -87,6 +93,7 @@ pub record Answers {D : Type 0} (of : Ghosts D) (files : Option Files) (salt : �
   pub store_fault : status ≡ StoreFault → Rose (of.faults old.journal) (of.faults new.journal)
   pub bad_store : (place : ℕ) → status ≡ BadStore place → IsTold of old.journal → Judges (of.seen old.journal) (Err place)
   pub used_up : status ≡ NumbersUsedUp → IsUsedUp of old
+  pub full : status ≡ JournalFull → IsLeft of old → OfFiles files (λ told. OfWords words (λ asked. FindsNoRoom of told salt asked old new))
   pub runs : IsLeft of old → OfFiles files (λ told. RunsOver of told old new)
   pub left : IsLeft of old → OfFiles files (λ told. IsLeft of new)
   pub slots : (new.left ≡ old.left) × (new.right ≡ old.right)

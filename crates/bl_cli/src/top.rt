@@ -20,6 +20,7 @@ ghost use Rattle.bl_cli.specs.Ends.{
 ghost use Rattle.bl_cli.specs.LoadRuns.{IsUsedUp, LoadRuns, LoadsOver};
 ghost use Rattle.bl_cli.specs.Runs.{
   Answers,
+  FindsNoRoom,
   FindsNothing,
   HasReported,
   IsBegun,
@@ -312,6 +313,12 @@ pub fn run<R: Threads + Sync, F: Folder, D: Disk, K: Clock, S: Source, O: Sink, 
     ensures bad_store { (place : _) → result.0 ≡ Status.BadStore place
         → IsTold ⟦<D as Disk>⟧ disks.journal → Judges (D.seen disks.journal) (Err place) }
     ensures used_up { result.0 ≡ Status.NumbersUsedUp → IsUsedUp ⟦<D as Disk>⟧ disks }
+
+    // A full journal: behind entries that were appended, the next one, of a turn or of the load
+    // itself, doesn't fit behind the gate at which the journal ends.
+    ensures full { result.0 ≡ Status.JournalFull → IsLeft ⟦<D as Disk>⟧ disks
+        → OfFiles (F.files folder.old) (λ files. OfWords (map string_bytes words.now) (λ asked.
+        FindsNoRoom ⟦<D as Disk>⟧ files salt asked disks result.1)) }
 
     // Over a store that this program left, and told files: a crash at any moment leaves what one
     // might have left before, or entries on the way of this run's; loads that were stopped and gone
