@@ -11,6 +11,7 @@ mod KeptTags
 mod MadeLoads
 mod MadeAll
 mod OpenedStores
+mod ToldTexts
 mod ShownStores
 mod Reported
 mod PrintableChanges
