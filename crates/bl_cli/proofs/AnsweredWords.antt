@@ -86,7 +86,7 @@ module _ {D : Type 0} (of : Ghosts D) (files : Option Files) (salt : ℕ) (words
   pub answers_show : (what : Look) (old new : Disks D) (before after : Option (List ℕ)) (was now : ℕ) (it : Status) → AsksFor words (command.Show what)
       → ShowRuns of what old new before after was now it → Answers of files salt words old new before after was now it
   answers_show what old new before after was now it asks runs = record {
-    done = λ done. (command.Show what, asks, show_done it runs.ends done, runs.done done);
+    done = λ done. (command.Show what, asks, (show_done it runs.ends done, runs.done done));
     begun = λ begun. ⊎_elim (λ nothing. inl nothing) (λ (made : PrintsShown AddsFront of what old new before after). inr (command.Show what, asks, made)) (runs.begun begun);
     quiet = runs.quiet;
     nothing = λ nothing. (command.Show what, asks, runs.nothing nothing);
@@ -111,7 +111,7 @@ module _ {D : Type 0} (of : Ghosts D) (files : Option Files) (salt : ℕ) (words
     -- they ask for help, and it was written
     helped : (after : Option (List ℕ)) (now : ℕ) → AsksFor words command.Help → Written before after (Adds HELP.now) → Answers of files salt words disks disks before after was now status.Ok
     helped after now asks written = record {
-      done = λ done. (command.Help, asks, refl, written);
+      done = λ done. (command.Help, asks, (refl, written));
       begun = λ begun. absurd begun;
       quiet = λ quiet. absurd quiet;
       nothing = λ nothing. absurd nothing;

@@ -1,7 +1,8 @@
 // The text of `help`.
 
 /// One screen: what there is, and an example of each.
-pub const HELP: &[u8] = b"bl: loads of property graph CSV into a store, and the stream of their changes
+pub const HELP: &[u8] =
+    b"bl: loads of property graph CSV into a store, and the stream of their changes
 
   bl ROOT STORE COMMAND
 

@@ -118,11 +118,7 @@ fn tell_load<D: Disk>(alloc: Global, engine: &mut Engine<D>, id: u128) -> Result
     }
 }
 
-fn tell_page<D: Disk>(
-    alloc: Global,
-    engine: &mut Engine<D>,
-    ask: PageAsk,
-) -> Result<Text, Status>
+fn tell_page<D: Disk>(alloc: Global, engine: &mut Engine<D>, ask: PageAsk) -> Result<Text, Status>
     requires ready { engine.old.ready ≡ true }
     requires limit { (1 ≤ ask.limit) × (ask.limit ≤ 100000) }
     ensures { Tells ⟦<D as Disk>⟧ (Look.Page ask) engine.old engine.new result }

@@ -1,8 +1,9 @@
 // What is shown of a store, and the help.
-use bl_cli::Status;
 use crate::test_runs::{
-    FOLDER_OF_TWO, Failing, FileTable, NOTHING, Outcome, PEOPLE, folder_of, run_files, run_over, store,
+    FOLDER_OF_TWO, Failing, FileTable, NOTHING, Outcome, PEOPLE, folder_of, run_files, run_over,
+    store,
 };
+use bl_cli::Status;
 use bl_outside::{Disk, Disks, MemoryDisk, NoMemory, Text};
 use std::alloc::Global;
 use std::thread::Threads;
@@ -26,7 +27,14 @@ fn show<R: Threads + Sync>(
     disks: Disks<MemoryDisk>,
     fails: Failing,
 ) -> Result<Outcome, NoMemory> {
-    run_over(rt, alloc, words, &mut folder_of(alloc, &[], 0)?, disks, fails)
+    run_over(
+        rt,
+        alloc,
+        words,
+        &mut folder_of(alloc, &[], 0)?,
+        disks,
+        fails,
+    )
 }
 
 // Whether a run came to this, and the store that it left.
@@ -84,12 +92,7 @@ fn an_empty_store_has_no_load_and_no_record(rt: HostRuntime) -> Result<(), NoMem
 }
 
 // A page with these records, of which the last has this place.
-fn page(
-    alloc: Global,
-    commit: u32,
-    op: u32,
-    records: &[&str],
-) -> Result<String, NoMemory> {
+fn page(alloc: Global, commit: u32, op: u32, records: &[&str]) -> Result<String, NoMemory> {
     let mut text = format!(in alloc;
         "{{\"format\":\"PG_JSON\",\"lastEventId\":{{\"commitNum\":{commit},\"opNum\":{op}}},\"lastTrxTimestamp\":0,\"records\":["
     )?;
