@@ -1,8 +1,9 @@
 //! The program `bl`: loads of property graph CSV, as the Neptune bulk loader makes them.
 //!
 //! `bl ROOT STORE load s3://BUCKET/KEY [options]` loads the files at `ROOT/BUCKET/KEY` into the
-//! graph that the store keeps. `main` hands the real folder, disks and streams to
-//! [`bl_cli::run`], whose contract says what each answer means and what a crash leaves.
+//! graph that the store keeps; `status` and `stream` show what it has. `main` hands the real
+//! folder, disks and streams to [`bl_cli::run`], whose contract says what each answer means and
+//! what a crash leaves.
 #![tactic(auto)]
 
 use bl_cli::{Status, run};
@@ -42,6 +43,22 @@ fn disks_of(rt: &HostRuntime, alloc: Global, store: &str) -> Result<Disks<FileDi
     })
 }
 
+// Files that aren't opened, for a command that needs none.
+fn no_disks(alloc: Global) -> Disks<FileDisk> {
+    Disks {
+        journal: FileDisk::closed(alloc),
+        left: FileDisk::closed(alloc),
+        right: FileDisk::closed(alloc),
+    }
+}
+
+fn is_help(command: &[String]) -> bool {
+    match command {
+        [word] => word.as_str() == "help",
+        _ => false,
+    }
+}
+
 // The arguments behind the program's own name, or why they can't be had: one is no text, or memory
 // ran out.
 fn arguments(rt: &HostRuntime) -> Result<Vec<String>, Status> {
@@ -70,7 +87,11 @@ fn run_real<R: Threads + Sync>(
     };
     let alloc = rt.alloc();
     let mut folder = RealFolder::new(rt, root.clone()?);
-    let disks = disks_of(&rt, alloc, store.as_str())?;
+    let disks = if is_help(command) {
+        no_disks(alloc)
+    } else {
+        disks_of(&rt, alloc, store.as_str())?
+    };
     let mut clock = FixedClock::new(0);
     let mut input = ReadSource::new(rt.stdin());
     let mut out = WriteSink::new(rt.stdout());

@@ -16,7 +16,7 @@ use Rattle.bl_cli.specs.declared.asked.Asked.{Asked}
 use Rattle.bl_cli.specs.declared.load_option.LoadOption.{LoadOption}
 use Rattle.bl_cli.specs.declared.load_option.LoadOption.TheVariants.{Mode as mode_option, KeepGoing, UpdateSingle, Changes}
 use Rattle.bl_cli.specs.declared.options.Options.{Options}
-use Rattle.bl_cli.specs.Words.{AreEachOnce, AskForNothing, AsksFor, is_changes, is_keep_going, is_update_single, kind_of, mode_in, option_words, request_by}
+use Rattle.bl_cli.specs.Words.{AreEachOnce, AskForNoLoad, AsksForLoad, is_changes, is_keep_going, is_update_single, kind_of, mode_in, option_words, request_by}
 use Rattle.bl_cli.specs.Options.{Reads, asked_by, is_given, is_word, nothing_given, take_option, take_options, with_option}
 
 abbrev Differ : LoadOption → LoadOption → Type 0
@@ -195,7 +195,7 @@ asked_is kept options got says =
 
 -- these words ask for this load
 pub asks : (source kept : List ℕ) (words : List (List ℕ)) (got : Options) (command : List ℕ) → is_word command (codes "load") ≡ true → Reads words nothing_given (Some got) → Some kept ≡ kept_source source →
-    AsksFor (command ∷ (source ∷ words)) (asked_by kept got)
+    AsksForLoad (command ∷ (source ∷ words)) (asked_by kept got)
 asks source kept words got command is reads kept_is =
     let takes : Takes nothing_given reads.0 got = takes_of nothing_given reads.0 got reads.2 in
     record {
@@ -215,25 +215,25 @@ tail_same : (a b : List ℕ) (x y : List (List ℕ)) → a ∷ x ≡ b ∷ y →
 tail_same a b x y same = cc
 
 -- the first word is another
-pub no_load : (command source : List ℕ) (words : List (List ℕ)) → is_word command (codes "load") ≡ false → AskForNothing (command ∷ (source ∷ words))
+pub no_load : (command source : List ℕ) (words : List (List ℕ)) → is_word command (codes "load") ≡ false → AskForNoLoad (command ∷ (source ∷ words))
 no_load command source words is load asks =
     cc (is, (bytes_eq-Decides command (codes "load")).1 (head_same command (codes "load") _ _ asks.words_are))
 
 -- there are no such options
-pub no_options : (command source : List ℕ) (words : List (List ℕ)) → Reads words nothing_given None → AskForNothing (command ∷ (source ∷ words))
+pub no_options : (command source : List ℕ) (words : List (List ℕ)) → Reads words nothing_given None → AskForNoLoad (command ∷ (source ∷ words))
 no_options command source words reads load asks =
     refused_of nothing_given asks.options
     (reads asks.options (tail_same source asks.source words _ (tail_same command (codes "load") _ _ asks.words_are)))
     (all_fresh asks.options) asks.once
 
 -- the second word is no source
-pub no_source : (command source : List ℕ) (words : List (List ℕ)) → kept_source source ≡ None → AskForNothing (command ∷ (source ∷ words))
+pub no_source : (command source : List ℕ) (words : List (List ℕ)) → kept_source source ≡ None → AskForNoLoad (command ∷ (source ∷ words))
 no_source command source words none load asks =
     let same : source ≡ asks.source = head_same source asks.source words _ (tail_same command (codes "load") _ _ asks.words_are) in
     cc (none, ap kept_source same, asks.kept_is)
 
-pub one_word : (command : List ℕ) → AskForNothing (command ∷ [])
+pub one_word : (command : List ℕ) → AskForNoLoad (command ∷ [])
 one_word command load asks = absurd (cc (tail_same command (codes "load") _ _ asks.words_are))
 
-pub no_word : AskForNothing []
+pub no_word : AskForNoLoad []
 no_word load asks = absurd (cc (asks.words_are))

@@ -6,10 +6,11 @@ use Rattle.std.proofs.lemmas.Bool.{true≢false}
 use Rattle.bl_outside.specs.Counts.{Rose}
 use Rattle.bl_outside.specs.declared.disk.Disk.{Ghosts}
 use Rattle.bl_outside.proofs.Moments.{then_runs, weaker}
-use Rattle.bl_journal.specs.Journals.{Since}
+use Rattle.bl_journal.specs.Journals.{JournalRecord, Since}
 use Rattle.bl_entry.specs.declared.entry.Entry.{Entry}
 use Rattle.bl_world.specs.Worlds.{World}
 use Rattle.bl_world.specs.States.{Appends, AreNew, Fails, Grows, IsNew, Settles, State, at_rest, unsure}
+use Rattle.bl_engine.specs.Attempts.{HasNoRoom}
 use Rattle.bl_engine.specs.Calls.{Answers, Breaks, Commits, Drains, Handles, Reaches}
 use Rattle.bl_engine.specs.Engines.{IsAt, Stays, View}
 use Rattle.bl_engine.specs.Images.{IsImageOf}
@@ -74,7 +75,7 @@ module _ (makes : World → Entry → Type 0) where
     at_ready engine s ready (inr closed) = absurd (true≢false (sym ready ∙ closed.closed))
 
     -- the entries at which an engine stands that is ready
-    at_entries : (engine : View D) (s : State) → engine.ready ≡ true → Stays of engine s → IsAt of engine s.kept × (s ≡ at_rest s.kept)
+    pub at_entries : (engine : View D) (s : State) → engine.ready ≡ true → Stays of engine s → IsAt of engine s.kept × (s ≡ at_rest s.kept)
     at_entries engine s ready stays =
         let at : IsAt of engine s.kept × (s.pending ≡ None) = at_ready engine s ready stays in
         (at.0, λ i. record { kept = s.kept; pending = at.1 i })
@@ -120,6 +121,21 @@ module _ {D : Type 0} (of : Ghosts D) (makes wider : World → Entry → Type 0)
 
   pub breaks_drain : Breaks of makes old new from → Drains of wider old new from
   breaks_drain b = answers_drain b.0 (fails_reaches b.0 b.1) b.2
+
+-- a journal that is full for an entry is full for one of a wider kind
+pub no_room_wider : {D : Type 0} (of : Ghosts D) (makes wider : World → Entry → Type 0) (widen : (world : World) (entry : Entry) → makes world entry → wider world entry) (state : State) (journal : JournalRecord D)
+    → HasNoRoom of makes state journal → HasNoRoom of wider state journal
+no_room_wider of makes wider widen state journal none = record {
+  entries = none.entries;
+  settles = none.settles;
+  ends = none.ends;
+  world = none.world;
+  leads = none.leads;
+  entry = none.entry;
+  made = widen none.world none.entry none.made;
+  follows = none.follows;
+  full = none.full;
+}
 
 -- ---- what holds of each call
 

@@ -1,4 +1,7 @@
 mod Readings
+mod StreamOptions
+mod ReadCommands
+mod Apart
 mod GivenOptions
 mod Lines
 mod Prints
@@ -8,6 +11,8 @@ mod KeptTags
 mod MadeLoads
 mod MadeAll
 mod OpenedStores
+mod ToldTexts
+mod ShownStores
 mod Reported
 mod PrintableChanges
 mod LoadedEngines

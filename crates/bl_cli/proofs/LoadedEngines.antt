@@ -22,7 +22,8 @@ use Rattle.bl_cli.specs.LoadFaults.{IsOfStore, fault_trouble, print_fault_from, 
 use Rattle.bl_cli.specs.Loads.{Makes}
 use Rattle.bl_cli.specs.Outputs.{load_output}
 use Rattle.bl_cli.specs.Printing.{Adds, AddsFront, Written}
-use Rattle.bl_cli.specs.Runs.{IsDone, IsQuiet, IsStatusOf, LoadsOver, MayHaveBegun}
+use Rattle.bl_cli.specs.Ends.{IsDone, IsOfLoad, IsQuiet, IsStatusOf, MayHaveBegun}
+use Rattle.bl_cli.specs.LoadRuns.{LoadsOver}
 
 -- ---- the statuses of faults
 
@@ -34,13 +35,13 @@ undone fault.NoMemory done = done
 undone fault.JournalFull done = done
 undone fault.NumbersUsedUp done = done
 
-no_usage : (why : LoadFault) → ¬ (status_of why ≡ status.Usage)
-no_usage fault.WriteFault is = cc
-no_usage fault.StoreFault is = cc
-no_usage (fault.BadStore place) is = cc
-no_usage fault.NoMemory is = cc
-no_usage fault.JournalFull is = cc
-no_usage fault.NumbersUsedUp is = cc
+of_load : (why : LoadFault) → IsOfLoad (status_of why)
+of_load fault.WriteFault = tt
+of_load fault.StoreFault = tt
+of_load (fault.BadStore place) = tt
+of_load fault.NoMemory = tt
+of_load fault.JournalFull = tt
+of_load fault.NumbersUsedUp = tt
 
 no_write : (why : LoadFault) → IsOfStore why → ¬ (status_of why ≡ status.WriteFault)
 no_write fault.WriteFault of is = of
@@ -60,6 +61,14 @@ used_up (fault.BadStore place) is = absurd (cc (is))
 used_up fault.NoMemory is = absurd (cc (is))
 used_up fault.JournalFull is = absurd (cc (is))
 used_up fault.NumbersUsedUp is = refl
+
+no_room : (why : LoadFault) → status_of why ≡ status.JournalFull → IsErrOf {T = Job} {E = LoadFault} (Err why) fault.JournalFull
+no_room fault.WriteFault is = absurd (cc (is))
+no_room fault.StoreFault is = absurd (cc (is))
+no_room (fault.BadStore place) is = absurd (cc (is))
+no_room fault.NoMemory is = absurd (cc (is))
+no_room fault.JournalFull is = refl
+no_room fault.NumbersUsedUp is = absurd (cc (is))
 
 same_trouble : (why : LoadFault) → fault_trouble why ≡ status_trouble (status_of why)
 same_trouble fault.WriteFault = refl
@@ -81,6 +90,8 @@ not_begun ended (status.BadStore place) is begun = is
 not_begun ended status.NoMemory is begun = is
 not_begun ended status.JournalFull is begun = is
 not_begun ended status.NumbersUsedUp is begun = is
+not_begun ended status.UnknownLoad is begun = is
+not_begun ended status.NoRecords is begun = is
 
 not_quiet : (ended : JobStatus) (it : Status) → IsStatusOf ended it → ¬ IsQuiet it
 not_quiet ended status.Ok is quiet = quiet
@@ -92,6 +103,8 @@ not_quiet ended (status.BadStore place) is quiet = is
 not_quiet ended status.NoMemory is quiet = is
 not_quiet ended status.JournalFull is quiet = is
 not_quiet ended status.NumbersUsedUp is quiet = is
+not_quiet ended status.UnknownLoad is quiet = is
+not_quiet ended status.NoRecords is quiet = is
 
 no_trouble : (ended : JobStatus) (it : Status) → IsStatusOf ended it → None ≡ status_trouble it
 no_trouble ended status.Ok is = refl
@@ -103,6 +116,21 @@ no_trouble ended (status.BadStore place) is = absurd is
 no_trouble ended status.NoMemory is = absurd is
 no_trouble ended status.JournalFull is = absurd is
 no_trouble ended status.NumbersUsedUp is = absurd is
+no_trouble ended status.UnknownLoad is = absurd is
+no_trouble ended status.NoRecords is = absurd is
+
+ended_load : (ended : JobStatus) (it : Status) → IsStatusOf ended it → IsOfLoad it
+ended_load ended status.Ok is = tt
+ended_load ended status.JobNotCompleted is = tt
+ended_load ended status.Usage is = absurd is
+ended_load ended status.WriteFault is = absurd is
+ended_load ended status.StoreFault is = absurd is
+ended_load ended (status.BadStore place) is = absurd is
+ended_load ended status.NoMemory is = absurd is
+ended_load ended status.JournalFull is = absurd is
+ended_load ended status.NumbersUsedUp is = absurd is
+ended_load ended status.UnknownLoad is = absurd is
+ended_load ended status.NoRecords is = absurd is
 
 -- ---- the statuses of output that isn't written
 
@@ -113,6 +141,10 @@ unprinted_begun outside.NoMemory quiet = quiet
 unprinted_used : (why : Outside) → ¬ (status_of (print_fault_from why) ≡ status.NumbersUsedUp)
 unprinted_used outside.Failed is = cc
 unprinted_used outside.NoMemory is = cc
+
+unprinted_room : (why : Outside) → ¬ (status_of (print_fault_from why) ≡ status.JournalFull)
+unprinted_room outside.Failed is = cc
+unprinted_room outside.NoMemory is = cc
 
 unprinted_cause : (was now : ℕ) (why : Outside) → HasDeviceCause {T = Unit {0}} was now (Err why) → status_of (print_fault_from why) ≡ status.WriteFault → Rose was now
 unprinted_cause was now outside.Failed cause is = cause.failed refl
@@ -137,9 +169,10 @@ module _ {D : Type 0} (of : Ghosts D) (files : Option Files) (salt : ℕ) (load 
     done = λ done. absurd (undone why done);
     begun = λ _. inl refl;
     quiet = λ _. refl;
-    usage = no_usage why;
+    ends = of_load why;
     write_fault = λ is. absurd (no_write why makes.fault is);
     used_up = λ is. makes.used_up (used_up why is);
+    full = λ is. makes.full (no_room why is);
     drains = makes.drains;
     handles = subst (λ t. Handles of old new t) (same_trouble why) makes.handles;
     later = omega arith;
@@ -153,9 +186,10 @@ module _ {D : Type 0} (of : Ghosts D) (files : Option Files) (salt : ℕ) (load 
       done = λ done. (it, is, record { ready = makes.ended.0; job = makes.ended.1; prints = prints });
       begun = λ begun. absurd (not_begun it.status ends is begun);
       quiet = λ quiet. absurd (not_quiet it.status ends is quiet);
-      usage = λ same. subst (λ s. IsStatusOf it.status s) same is;
+      ends = ended_load it.status ends is;
       write_fault = λ same. absurd (subst (λ s. IsStatusOf it.status s) same is);
       used_up = λ same. absurd (subst (λ s. IsStatusOf it.status s) same is);
+      full = λ same. absurd (subst (λ s. IsStatusOf it.status s) same is);
       drains = makes.drains;
       handles = subst (λ t. Handles of old new t) (no_trouble it.status ends is) makes.handles;
       later = later;
@@ -168,9 +202,10 @@ module _ {D : Type 0} (of : Ghosts D) (files : Option Files) (salt : ℕ) (load 
       done = λ done. absurd (undone (print_fault_from why) done);
       begun = λ _. inr (it, record { ready = makes.ended.0; job = makes.ended.1; prints = prints });
       quiet = λ quiet. absurd (unprinted_begun why quiet);
-      usage = no_usage (print_fault_from why);
+      ends = of_load (print_fault_from why);
       write_fault = unprinted_cause was now why cause;
       used_up = λ is. absurd (unprinted_used why is);
+      full = λ is. absurd (unprinted_room why is);
       drains = makes.drains;
       handles = handles_unprinted of old new why makes.handles;
       later = cause.later;

@@ -12,7 +12,9 @@ use Rattle.bl_queue.specs.Statuses.{has_ended}
 use Rattle.bl_queue.specs.Jobs.{AreJobs, Kept, front_job, is_unended, number_in}
 use Rattle.bl_entry.specs.declared.entry.Entry.{Entry}
 use Rattle.bl_world.specs.LoadIds.{load_number}
-use Rattle.bl_world.specs.States.{at_rest}
+use Rattle.bl_world.specs.Makings.{SubmitEntry}
+use Rattle.bl_world.specs.States.{State, at_rest}
+use Rattle.bl_world.specs.Worlds.{World}
 use Rattle.bl_load.specs.SameJobs.{HasSameJobs, Tag, tag_of}
 use Rattle.bl_cli.specs.Tags.{HasTag, HasTaken}
 use Rattle.bl_world.specs.Works.{work_of}
@@ -22,16 +24,17 @@ use Rattle.bl_world.proofs.EndedJobs.{one_job}
 use Rattle.bl_world.proofs.NextWorks.{idle_front}
 use Rattle.bl_chain.specs.Folders.{AreTablesOf}
 use Rattle.bl_chain.specs.MadeEntries.{IsMade}
-use Rattle.bl_engine.specs.Calls.{Handles}
+use Rattle.bl_engine.specs.Calls.{Handles, Reaches}
+use Rattle.bl_engine.specs.Attempts.{HasNoRoom}
 use Rattle.bl_engine.specs.Engines.{IsAt, View}
-use Rattle.bl_load.specs.Turns.{DrainsOver, IsDrained}
+use Rattle.bl_load.specs.Turns.{DrainsFull, DrainsOver, IsDrained, MayTurn}
 use Rattle.bl_cli.specs.declared.load_fault.LoadFault.{LoadFault}
 use Rattle.bl_cli.specs.declared.load_fault.LoadFault.TheVariants as fault
 use Rattle.bl_cli.specs.LoadFaults.{IsOfStore, IsOfTurns, fault_trouble, trouble_of}
-use Rattle.bl_cli.specs.Loads.{DrainsAll, FindsLoad, IsLoadOf, Makes, Submits}
+use Rattle.bl_cli.specs.Loads.{DrainsAll, FindsLoad, IsLoadOf, LacksRoom, Makes, MayAppend, Submits}
 use Rattle.bl_cli.specs.Stores.{OfFiles}
-use Rattle.bl_cli.proofs.GrownTwice.{drains_on, handles_after}
-use Rattle.bl_cli.proofs.MadeLoads.{of_files, told_files, turns_no_numbers, turns_of_store}
+use Rattle.bl_cli.proofs.GrownTwice.{at_entries, drains_on, handles_after, no_room_wider, reaches_then}
+use Rattle.bl_cli.proofs.MadeLoads.{look_no_room, look_of_turns, of_files, told_files, turns_no_numbers, turns_of_store}
 
 -- ---- the job that is kept
 
@@ -78,7 +81,28 @@ ended_of kept are idle it there = none_unended kept.jobs (idle_front kept are id
 abbrev err_of : LoadFault → Result ℕ LoadFault
 err_of why = Err why
 
+abbrev err_in : (T : Type 0) → LoadFault → Result T LoadFault
+err_in T why = Err why
+
 module _ {D : Type 0} (of : Ghosts D) (files : Option Files) (salt : ℕ) (request : LoadRequest) where
+  room_err : {T : Type 0} (why : LoadFault) → IsErrOf {T = Job} {E = LoadFault} (Err why) fault.JournalFull → IsErrOf {T = T} {E = LoadFault} (Err why) fault.JournalFull
+  room_err {T} why is = let same : why ≡ fault.JournalFull = cc (is) in ap (λ w. err_in T w) same
+
+  -- the entry of a turn, and that of the load
+  turn_appends : (told : Files) (world : World) (entry : Entry) → MayTurn told world entry → MayAppend told salt request world entry
+  turn_appends told world entry may = inl may
+
+  submit_appends : (told : Files) (now : ℕ) (world : World) (entry : Entry) → SubmitEntry salt request now world entry → MayAppend told salt request world entry
+  submit_appends told now world entry made = inr (now, made)
+
+  -- turns that find the journal full, behind calls
+  lacks_by : (told : Files) (from middle : State) (new : View D) → Reaches (IsMade (AreTablesOf told)) from middle → DrainsFull of told middle new → LacksRoom of told salt request from new.journal
+  lacks_by told from middle new reaches full = (
+    full.0,
+    reaches_then (IsMade (AreTablesOf told)) from middle full.0 reaches full.1,
+    no_room_wider of (MayTurn told) (MayAppend told salt request) (turn_appends told) full.0 new.journal full.2,
+  )
+
   -- the first turns weren't all made
   pub makes_undrained : (old new : View D) (why : LoadFault) → DrainsAll of files old new (Err why) → Makes of files salt request old new (Err why)
   makes_undrained old new why drains = record {
@@ -86,6 +110,11 @@ module _ {D : Type 0} (of : Ghosts D) (files : Option Files) (salt : ℕ) (reque
     drains = drains.over;
     handles = drains.handles;
     used_up = turns_no_numbers {T = Job} why drains.fault;
+    full = λ is.
+        of_files files (λ told. (entries : List Entry) → IsAt of old entries → LacksRoom of told salt request (at_rest entries) new.journal)
+        (λ told same entries at.
+        lacks_by told (at_rest entries) (at_rest entries) new (inl refl)
+        (told_files files told (λ told. (entries : List Entry) → IsAt of old entries → DrainsFull of told (at_rest entries) new) same (drains.full (room_err why is)) entries at));
     fault = turns_of_store why drains.fault;
   }
 
@@ -108,6 +137,16 @@ module _ {D : Type 0} (of : Ghosts D) (files : Option Files) (salt : ℕ) (reque
       drains = of_files files (λ told. (entries : List Entry) → IsAt of old entries → DrainsOver of told old new (at_rest entries)) (drains_two new (Err why) submits);
       handles = handles_after of old mid new (fault_trouble why) ready_mid first.handles submits.handles;
       used_up = λ is. sym first.idle.1.last ∙ submits.used_up (err_again why is);
+      full = λ is.
+          of_files files (λ told. (entries : List Entry) → IsAt of old entries → LacksRoom of told salt request (at_rest entries) new.journal)
+          (λ told same entries at.
+          let drained = drains_first told same entries at in
+          let stands : IsAt of mid drained.to.kept × (drained.to ≡ at_rest drained.to.kept) = at_entries (IsMade (AreTablesOf told)) of mid drained.to ready_mid drained.stays in
+          let room = submits.full (room_err why is) drained.to.kept stands.0 in (
+            at_rest drained.to.kept,
+            subst (λ s. Reaches (IsMade (AreTablesOf told)) (at_rest entries) s) stands.1 drained.reaches,
+            no_room_wider of (SubmitEntry salt request room.0) (MayAppend told salt request) (submit_appends told room.0) (at_rest drained.to.kept) new.journal room.1,
+          ));
       fault = submits.fault;
     } where
       err_again : (why : LoadFault) → IsErrOf {T = Job} {E = LoadFault} (Err why) fault.NumbersUsedUp → IsErrOf {T = ℕ} {E = LoadFault} (Err why) fault.NumbersUsedUp
@@ -133,6 +172,13 @@ module _ {D : Type 0} (of : Ghosts D) (files : Option Files) (salt : ℕ) (reque
         drains = of_files files (λ told. (entries : List Entry) → IsAt of old entries → DrainsOver of told old new (at_rest entries)) (drains_three new (Err why) second);
         handles = handles_after of old later new (fault_trouble why) ready_later handles_later second.handles;
         used_up = turns_no_numbers {T = Job} why second.fault;
+        full = λ is.
+            of_files files (λ told. (entries : List Entry) → IsAt of old entries → LacksRoom of told salt request (at_rest entries) new.journal)
+            (λ told same entries at.
+            let drained = drains_two later (Ok id) submits told same entries at in
+            let stands : IsAt of later drained.to.kept × (drained.to ≡ at_rest drained.to.kept) = at_entries (IsMade (AreTablesOf told)) of later drained.to ready_later drained.stays in
+            lacks_by told (at_rest entries) (at_rest drained.to.kept) new (subst (λ s. Reaches (IsMade (AreTablesOf told)) (at_rest entries) s) stands.1 drained.reaches)
+            (told_files files told (λ told. (them : List Entry) → IsAt of later them → DrainsFull of told (at_rest them) new) same (second.full (room_err why is)) drained.to.kept stands.0));
         fault = turns_of_store why second.fault;
       }
 
@@ -168,6 +214,7 @@ module _ {D : Type 0} (of : Ghosts D) (files : Option Files) (salt : ℕ) (reque
               (λ told is. subst (λ (v : View D). (entries : List Entry) → IsAt of old entries → DrainsOver of told old v (at_rest entries)) (sym finds.same) (drains_three last (Ok tt) second told is));
           handles = handles_after of old last new None ready_last handles_last finds.handles;
           used_up = λ is. absurd (cc (is));
+          full = λ is. absurd (cc (is));
           fault = tt;
         }
         makes_found new (Err why) are finds = record {
@@ -175,6 +222,7 @@ module _ {D : Type 0} (of : Ghosts D) (files : Option Files) (salt : ℕ) (reque
           drains = of_files files (λ told. (entries : List Entry) → IsAt of old entries → DrainsOver of told old new (at_rest entries))
               (λ told is. subst (λ (v : View D). (entries : List Entry) → IsAt of old entries → DrainsOver of told old v (at_rest entries)) (sym finds.same) (drains_three last (Ok tt) second told is));
           handles = handles_after of old last new (fault_trouble why) ready_last handles_last finds.handles;
-          used_up = turns_no_numbers {T = Job} why finds.fault;
-          fault = turns_of_store why finds.fault;
+          used_up = turns_no_numbers {T = Job} why (look_of_turns why finds.fault);
+          full = look_no_room {T = Job} why finds.fault;
+          fault = turns_of_store why (look_of_turns why finds.fault);
         }

@@ -37,19 +37,19 @@ use Rattle.bl_engine.specs.Attempts.{Attempts}
 use Rattle.bl_engine.specs.Calls.{Handles}
 use Rattle.bl_engine.specs.Engines.{IsAt, Stays, View}
 use Rattle.bl_engine.specs.Findings.{Finds, SubmitFinds}
-use Rattle.bl_engine.specs.Outcomes.{Done, Outcome, Refused, submit_outcome, trouble_in}
+use Rattle.bl_engine.specs.Outcomes.{Done, Full, Outcome, Refused, submit_outcome, trouble_in}
 use Rattle.bl_engine.specs.declared.refusals.SubmitRefusal.{SubmitRefusal}
 use Rattle.bl_engine.specs.declared.refusals.SubmitRefusal.TheVariants as submit
 use Rattle.bl_engine.specs.declared.refusals.Trouble.{Trouble}
 use Rattle.bl_load.specs.OpenFiles.{IsFresh}
-use Rattle.bl_load.specs.Turns.{DrainsOver, IsDrained}
+use Rattle.bl_load.specs.Turns.{DrainsFull, DrainsOver, IsDrained}
 use Rattle.bl_load.specs.TurnFaults.{told_trouble}
 use Rattle.bl_load.specs.declared.open_file.OpenFile.{OpenFile}
 use Rattle.bl_load.specs.declared.turn_fault.TurnFault.{TurnFault}
 use Rattle.bl_load.specs.declared.turn_fault.TurnFault.TheVariants as turn
 use Rattle.bl_cli.specs.declared.load_fault.LoadFault.{LoadFault}
 use Rattle.bl_cli.specs.declared.load_fault.LoadFault.TheVariants as fault
-use Rattle.bl_cli.specs.LoadFaults.{IsOfStore, IsOfTurns, MayRefuse, TellsOf, fault_trouble, trouble_of, turn_fault_from}
+use Rattle.bl_cli.specs.LoadFaults.{IsOfLook, IsOfStore, IsOfTurns, MayRefuse, TellsOf, fault_trouble, trouble_of, turn_fault_from}
 use Rattle.bl_cli.specs.Loads.{DrainsAll, FindsLoad, IsLoadOf, Makes, Submits}
 use Rattle.bl_cli.specs.Stores.{OfFiles}
 use Rattle.bl_cli.specs.Words.{IsPlain}
@@ -73,6 +73,13 @@ told_same turn.StoreFault = refl
 told_same (turn.BadStore place) = refl
 told_same turn.NoMemory = refl
 
+-- turns find the journal full where this is told
+turn_full : (why : TurnFault) → IsErrOf {T = Unit {0}} {E = LoadFault} (Err (turn_fault_from why)) fault.JournalFull → IsErrOf {T = Unit {0}} {E = TurnFault} (Err why) turn.JournalFull
+turn_full turn.JournalFull is = refl
+turn_full turn.StoreFault is = absurd (cc (is))
+turn_full (turn.BadStore place) is = absurd (cc (is))
+turn_full turn.NoMemory is = absurd (cc (is))
+
 pub of_turns : (why : TurnFault) → IsOfTurns (turn_fault_from why)
 of_turns turn.JournalFull = tt
 of_turns turn.StoreFault = tt
@@ -86,6 +93,23 @@ turns_of_store (fault.BadStore place) is = tt
 turns_of_store fault.NoMemory is = tt
 turns_of_store fault.JournalFull is = tt
 turns_of_store fault.NumbersUsedUp is = tt
+
+pub look_of_turns : (why : LoadFault) → IsOfLook why → IsOfTurns why
+look_of_turns fault.WriteFault is = is
+look_of_turns fault.StoreFault is = tt
+look_of_turns (fault.BadStore place) is = tt
+look_of_turns fault.NoMemory is = tt
+look_of_turns fault.JournalFull is = absurd is
+look_of_turns fault.NumbersUsedUp is = is
+
+-- a look finds no full journal
+pub look_no_room : {P : Type 0} {T : Type 0} (why : LoadFault) → IsOfLook why → IsErrOf {T = T} {E = LoadFault} (Err why) fault.JournalFull → P
+look_no_room fault.WriteFault is same = absurd is
+look_no_room fault.StoreFault is same = absurd (cc (same))
+look_no_room (fault.BadStore place) is same = absurd (cc (same))
+look_no_room fault.NoMemory is same = absurd (cc (same))
+look_no_room fault.JournalFull is same = absurd is
+look_no_room fault.NumbersUsedUp is same = absurd is
 
 -- turns don't use up the numbers
 pub turns_no_numbers : {P : Type 0} {T : Type 0} (why : LoadFault) → IsOfTurns why → IsErrOf {T = T} {E = LoadFault} (Err why) fault.NumbersUsedUp → P
@@ -105,10 +129,20 @@ module _ {D : Type 0} (of : Ghosts D) (files : Option Files) (held : Option Open
       (λ told is entries at. made told is (subst (λ h. IsFresh told h) (sym free) tt) (at_rest entries) (inl (at, refl)))
 
   pub drains_ok : IsDrained new → HasSameJobs old.world.kept new.world.kept → Handles of old new None → DrainsAll of files old new (Ok tt)
-  drains_ok idle same handles = record { idle = (idle, same); over = drains_over; handles = handles; fault = tt }
+  drains_ok idle same handles = record { idle = (idle, same); over = drains_over; handles = handles; full = λ is. absurd (cc (is)); fault = tt }
 
-  pub drains_err : (why : TurnFault) → Handles of old new (told_trouble why) → DrainsAll of files old new (Err (turn_fault_from why))
-  drains_err why handles = record { idle = tt; over = drains_over; handles = subst (λ t. Handles of old new t) (told_same why) handles; fault = of_turns why }
+  pub drains_err : (why : TurnFault) → Handles of old new (told_trouble why)
+      → ((told : Files) → files ≡ Some told → IsFresh told held → (state : State) → Stays of old state → IsErrOf {T = Unit {0}} {E = TurnFault} (Err why) turn.JournalFull → DrainsFull of told state new)
+      → DrainsAll of files old new (Err (turn_fault_from why))
+  drains_err why handles full = record {
+    idle = tt;
+    over = drains_over;
+    handles = subst (λ t. Handles of old new t) (told_same why) handles;
+    full = λ is.
+        of_files files (λ told. (entries : List Entry) → IsAt of old entries → DrainsFull of told (at_rest entries) new)
+        (λ told same entries at. full told same (subst (λ h. IsFresh told h) (sym free) tt) (at_rest entries) (inl (at, refl)) (turn_full why is));
+    fault = of_turns why;
+  }
 
 -- ---- a load is submitted
 
@@ -215,6 +249,17 @@ tells_used of salt request old submit.StoreFault told tells found is = absurd (c
 tells_used of salt request old (submit.BadStore place) told tells found is = absurd (cc (sym tells ∙ is))
 tells_used of salt request old submit.NoMemory told tells found is = absurd (cc (sym tells ∙ is))
 
+tells_full : (why : SubmitRefusal) (told : LoadFault) → TellsOf why told → told ≡ fault.JournalFull → submit_outcome (Err why) ≡ Full
+tells_full submit.TooManyDependencies told tells is = absurd tells
+tells_full (submit.UnknownDependency place) told tells is = absurd tells
+tells_full (submit.Busy id) told tells is = absurd tells
+tells_full submit.QueueFull told tells is = absurd tells
+tells_full submit.NumbersUsedUp told tells is = absurd (cc (sym tells ∙ is))
+tells_full submit.JournalFull told tells is = refl
+tells_full submit.StoreFault told tells is = absurd (cc (sym tells ∙ is))
+tells_full (submit.BadStore place) told tells is = absurd (cc (sym tells ∙ is))
+tells_full submit.NoMemory told tells is = absurd (cc (sym tells ∙ is))
+
 module _ {D : Type 0} (of : Ghosts D) (salt now : ℕ) (request : LoadRequest) (old new : View D) where
   made_submit : (files : Files) (world : World) (entry : Entry) → SubmitEntry salt request now world entry → IsMade (AreTablesOf files) world entry
   made_submit files world entry is = subst (λ e. IsMade (AreTablesOf files) world e) (sym is) tt
@@ -237,6 +282,7 @@ module _ {D : Type 0} (of : Ghosts D) (salt now : ℕ) (request : LoadRequest) (
             (attempts.commits refl (at_rest entries) (inl (at, refl)));
         handles = attempts.handles;
         used_up = λ is. absurd (cc (is));
+        full = λ is. absurd (cc (is));
         fault = tt;
       }
 
@@ -248,11 +294,12 @@ module _ {D : Type 0} (of : Ghosts D) (salt now : ℕ) (request : LoadRequest) (
         breaks_drain of (SubmitEntry salt request now) (IsMade (AreTablesOf files)) (made_submit files) old new (at_rest entries) attempts.handles.left attempts.handles.right
         (attempts.breaks undone (at_rest entries) (inl (at, refl)));
     handles = subst (λ t. Handles of old new t) (tells_trouble why told tells) attempts.handles;
-    used_up = λ is. tells_used of salt request old why told tells found (err_same is);
+    used_up = λ is. tells_used of salt request old why told tells found (err_same fault.NumbersUsedUp is);
+    full = λ is entries at. (now, attempts.no_room (tells_full why told tells (err_same fault.JournalFull is)) (at_rest entries) (inl (at, refl)));
     fault = tells_store why told tells;
   } where
-    err_same : IsErrOf {T = ℕ} {E = LoadFault} (Err told) fault.NumbersUsedUp → told ≡ fault.NumbersUsedUp
-    err_same is = cc (is)
+    err_same : (other : LoadFault) → IsErrOf {T = ℕ} {E = LoadFault} (Err told) other → told ≡ other
+    err_same other is = cc (is)
 
 pub undone : (why : SubmitRefusal) → ¬ (submit_outcome (Err why) ≡ Done)
 undone submit.TooManyDependencies is = cc

@@ -30,30 +30,32 @@ use Rattle.bl_cli.specs.declared.asked.Asked.{Asked}
 use Rattle.bl_cli.specs.declared.status.Status.{Status}
 use Rattle.bl_cli.specs.declared.status.Status.TheVariants as status
 use Rattle.bl_cli.specs.LoadFaults.{fault_from, status_of, status_trouble}
+use Rattle.bl_cli.specs.Loads.{LacksRoom}
 use Rattle.bl_cli.specs.Printing.{Adds, AddsFront}
-use Rattle.bl_cli.specs.Runs.{IsDone, IsQuiet, IsStatusOf, LeadsTo, LoadRuns, LoadsOver, MayHaveBegun, PrintsJob, PrintsLoad, WasFound, WasMade}
-use Rattle.bl_cli.specs.Stores.{EndsBehind, HasGrown, IsOnTheWay, OfFiles, RunsOver}
+use Rattle.bl_cli.specs.Ends.{IsDone, IsOfLoad, IsQuiet, IsStatusOf, MayHaveBegun}
+use Rattle.bl_cli.specs.LoadRuns.{HasNoPlace, LoadRuns, LoadsOver, PrintsJob, PrintsLoad, WasMade}
+use Rattle.bl_cli.specs.Stores.{EndsBehind, HasGrown, IsOnTheWay, LeadsTo, OfFiles, RunsOver, WasFound}
 use Rattle.bl_cli.proofs.MadeLoads.{of_files, told_files}
 
-rose_later : (a b c : ℕ) → a ≤ b → Rose b c → Rose a c
+pub rose_later : (a b c : ℕ) → a ≤ b → Rose b c → Rose a c
 rose_later a b c le rose = omega (arith, rose)
 
 -- ---- the statuses that tell of a trouble
 
-abbrev err_of : Trouble → Result World Trouble
+abbrev pub err_of : Trouble → Result World Trouble
 err_of why = Err why
 
-undone : (why : Trouble) → ¬ IsDone (status_of (fault_from why))
+pub undone : (why : Trouble) → ¬ IsDone (status_of (fault_from why))
 undone trouble.StoreFault done = done
 undone (trouble.BadStore place) done = done
 undone trouble.NoMemory done = done
 
-no_other : (why : Trouble) → ¬ (status_of (fault_from why) ≡ status.Usage)
-no_other trouble.StoreFault is = cc
-no_other (trouble.BadStore place) is = cc
-no_other trouble.NoMemory is = cc
+pub of_load : (why : Trouble) → IsOfLoad (status_of (fault_from why))
+of_load trouble.StoreFault = tt
+of_load (trouble.BadStore place) = tt
+of_load trouble.NoMemory = tt
 
-no_write : (why : Trouble) → ¬ (status_of (fault_from why) ≡ status.WriteFault)
+pub no_write : (why : Trouble) → ¬ (status_of (fault_from why) ≡ status.WriteFault)
 no_write trouble.StoreFault is = cc
 no_write (trouble.BadStore place) is = cc
 no_write trouble.NoMemory is = cc
@@ -63,12 +65,17 @@ no_numbers trouble.StoreFault is = cc
 no_numbers (trouble.BadStore place) is = cc
 no_numbers trouble.NoMemory is = cc
 
-store_is : (why : Trouble) → status_of (fault_from why) ≡ status.StoreFault → why ≡ trouble.StoreFault
+no_room : (why : Trouble) → ¬ (status_of (fault_from why) ≡ status.JournalFull)
+no_room trouble.StoreFault is = cc
+no_room (trouble.BadStore place) is = cc
+no_room trouble.NoMemory is = cc
+
+pub store_is : (why : Trouble) → status_of (fault_from why) ≡ status.StoreFault → why ≡ trouble.StoreFault
 store_is trouble.StoreFault is = refl
 store_is (trouble.BadStore place) is = absurd (cc (is))
 store_is trouble.NoMemory is = absurd (cc (is))
 
-bad_is : (why : Trouble) (at : ℕ) → status_of (fault_from why) ≡ status.BadStore at → why ≡ trouble.BadStore at
+pub bad_is : (why : Trouble) (at : ℕ) → status_of (fault_from why) ≡ status.BadStore at → why ≡ trouble.BadStore at
 bad_is trouble.StoreFault at is = absurd (cc (is))
 bad_is (trouble.BadStore place) at is = let same : place ≡ at = cc (is) in ap trouble.BadStore same
 bad_is trouble.NoMemory at is = absurd (cc (is))
@@ -88,7 +95,7 @@ module _ {D : Type 0} (of : Ghosts D) (counts : (disk : D) (t : ℕ) (c : List �
 
   module _ (files : Option Files) (salt : ℕ) (load : Asked) (old new : Disks D) (before : Option (List ℕ)) (count place : ℕ) (why : Trouble)
       (opens : Opens of old.journal (record { disk = new.journal; place = place }) (Err why)) (slots : (new.left ≡ old.left) × (new.right ≡ old.right)) where
-    bad_judged : (at : ℕ) → why ≡ trouble.BadStore at → IsTold of old.journal → Judges (of.seen old.journal) (Err at)
+    pub bad_judged : (at : ℕ) → why ≡ trouble.BadStore at → IsTold of old.journal → Judges (of.seen old.journal) (Err at)
     bad_judged at same told = subst (λ (w : Trouble). TroubleIs (of.seen old.journal) w) same (opens.trouble told)
 
     -- a status that tells of the trouble
@@ -97,11 +104,12 @@ module _ {D : Type 0} (of : Ghosts D) (counts : (disk : D) (t : ℕ) (c : List �
       done = λ done. absurd (undone why done);
       begun = λ _. inl refl;
       quiet = λ _. refl;
-      usage = λ is. no_other why is;
+      ends = of_load why;
       write_fault = λ is. absurd (no_write why is);
       store_fault = λ is. opens.store (ap err_of (store_is why is));
       bad_store = λ at is told. bad_judged at (bad_is why at is) told;
       used_up = λ is. absurd (no_numbers why is);
+      full = λ is left. absurd (no_room why is);
       runs = λ left. of_files files (λ told. RunsOver of told old new) (λ told same. inl (opens.any_moment left.sound));
       left = λ left. of_files files (λ told. IsLeft of new) (λ told same. left_untouched old new (opens.sound.0 left.sound) (opens.any_moment left.sound) left);
       slots = slots;
@@ -194,16 +202,32 @@ module _ {D : Type 0} (of : Ghosts D) (files : Option Files) (salt : ℕ) (load 
       grown of told old new engine last opens ready journal sound
       (told_files files told (λ told. (entries : List Entry) → IsAt of engine entries → DrainsOver of told engine last (at_rest entries)) is over.drains)
 
+  lacks_room : (told : Files) → files ≡ Some told → IsSound of old.journal → end ≡ status.JournalFull → HasNoPlace of told salt load.request old new
+  lacks_room told same sound is =
+      let opened : Opened of old.journal engine.journal engine.world = opens.opened sound in
+      let at_first : IsAt of engine opened.entries = record { ready = ready; valid = opened.valid; ends = opened.ends; world = opened.leads } in
+      record {
+        first = opened.entries;
+        image = opened.image;
+        was = opened.left;
+        has = opened.has;
+        place = last.journal.place;
+        lacks =
+            subst (λ d. LacksRoom of told salt load.request (at_rest opened.entries) (record { disk = d; place = last.journal.place })) (sym journal)
+            (told_files files told (λ told. (entries : List Entry) → IsAt of engine entries → LacksRoom of told salt load.request (at_rest entries) last.journal) same (over.full is) opened.entries at_first);
+      }
+
   pub opened_runs : LoadRuns of files salt load old new before after was now end
   opened_runs = record {
     done = λ done. let made = over.done done in (made.0, made.1, prints_job Adds made.0 made.2);
     begun = λ begun. ⊎_elim (λ nothing. inl nothing) (λ (made : (it : Job) × PrintsLoad AddsFront salt load engine last before after it). inr (made.0, prints_job AddsFront made.0 made.1)) (over.begun begun);
     quiet = over.quiet;
-    usage = over.usage;
+    ends = over.ends;
     write_fault = over.write_fault;
     store_fault = λ is. subst (λ d. Rose (of.faults old.journal) (of.faults d)) (sym journal) (rose_later (of.faults old.journal) (of.faults engine.journal.disk) (of.faults last.journal.disk) opens.later (over.handles.store (ap status_trouble is)));
     bad_store = λ place is told. absurd (true≢false (sym ready ∙ (over.handles.bad place (ap status_trouble is)).0));
     used_up = λ is. (engine.world, opens.judged, over.used_up is);
+    full = λ is left. of_files files (λ told. HasNoPlace of told salt load.request old new) (λ told same. lacks_room told same left.sound is);
     runs = λ left. of_files files (λ told. RunsOver of told old new) (λ told is. inr (grown_over told is left.sound));
     left = λ left. of_files files (λ told. IsLeft of new) (λ told is. left_grown of told old new (sound_new left.sound) (grown_over told is left.sound));
     slots = (left_is ∙ over.handles.left ∙ slots.0, right_is ∙ over.handles.right ∙ slots.1);

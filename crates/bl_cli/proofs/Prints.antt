@@ -248,6 +248,8 @@ line_parts (status.BadStore place) = (place_behind place, refl)
 line_parts status.NoMemory = ([], append_nothing (line_of status.NoMemory))
 line_parts status.JournalFull = ([], append_nothing (line_of status.JournalFull))
 line_parts status.NumbersUsedUp = ([], append_nothing (line_of status.NumbersUsedUp))
+line_parts status.UnknownLoad = ([], append_nothing (line_of status.UnknownLoad))
+line_parts status.NoRecords = ([], append_nothing (line_of status.NoRecords))
 
 -- ---- by the answer
 

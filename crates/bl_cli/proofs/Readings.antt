@@ -26,7 +26,7 @@ words_are_begun KeepGoing rest = refl
 words_are_begun UpdateSingle rest = refl
 words_are_begun Changes rest = refl
 
-same_word : (word text : List ℕ) → is_word word text ≡ true → word ≡ text
+pub same_word : (word text : List ℕ) → is_word word text ≡ true → word ≡ text
 same_word word text is = (bytes_eq-Decides word text).0 is
 
 mode_by : (word : List ℕ) (mode : Mode) (a b c : Bool) → is_word word (codes "NEW") ≡ a → is_word word (codes "RESUME") ≡ b → is_word word (codes "AUTO") ≡ c →

@@ -7,15 +7,19 @@ use Rattle.bl_outside.specs.Folders.{Files}
 use Rattle.bl_outside.specs.declared.disk.Disk.{Ghosts}
 use Rattle.bl_outside.specs.declared.disks.Disks.{Disks}
 use Rattle.bl_outside.proofs.Told.{content_told}
-use Rattle.bl_queue.specs.declared.job.Job.{Job}
 use Rattle.bl_engine.specs.Images.{HasEntries, IsLeft}
 use Rattle.bl_engine.specs.Openings.{IsTold, Judges, NeverBad}
+use Rattle.bl_cli.specs.declared.command.Command.{Command}
+use Rattle.bl_cli.specs.declared.command.Command.TheVariants as command
 use Rattle.bl_cli.specs.declared.status.Status.{Status}
 use Rattle.bl_cli.specs.declared.status.Status.TheVariants as status
 use Rattle.bl_cli.specs.Printing.{Adds, AddsFront, Written}
-use Rattle.bl_cli.specs.Runs.{Answers, HasLine, HasReported, IsCalm, IsCalmEnd, IsDone, IsQuiet, IsStatusOf, IsUnasked, IsUsedUp, MayHaveBegun, OfWords, PrintsJob, Reports}
+use Rattle.bl_cli.specs.Ends.{HasLine, IsCalm, IsCalmEnd, IsDone, IsNothing, IsQuiet, IsUnasked, MayHaveBegun}
+use Rattle.bl_cli.specs.LoadRuns.{IsUsedUp}
+use Rattle.bl_cli.specs.Runs.{Answers, FindsNoRoom, FindsNothing, HasReported, IsBegun, IsCarriedOut, IsEndOf, Keeps, OfWords, Reports}
 use Rattle.bl_cli.specs.Statuses.{line_of}
-use Rattle.bl_cli.specs.Words.{AskForNothing}
+use Rattle.bl_cli.specs.Stores.{OfFiles}
+use Rattle.bl_cli.specs.Commands.{AskForNothing, AsksFor}
 
 -- a status with a line printed nothing, or may have begun to
 quiet_or_begun : (it : Status) → HasLine it → IsQuiet it ⊎ MayHaveBegun it
@@ -28,6 +32,8 @@ quiet_or_begun (status.BadStore place) has = inl tt
 quiet_or_begun status.NoMemory has = inr tt
 quiet_or_begun status.JournalFull has = inl tt
 quiet_or_begun status.NumbersUsedUp has = inl tt
+quiet_or_begun status.UnknownLoad has = inl tt
+quiet_or_begun status.NoRecords has = inl tt
 
 -- the line of the result, or a front of another one
 pub has_reported : (err err' : Option (List ℕ)) (before now : ℕ) (it result : Status) → Reports err err' before now it result → HasReported err err' before now result
@@ -42,13 +48,13 @@ module _ {D : Type 0} (of : Ghosts D) (files : Option Files) (salt : ℕ) (words
       ⊎_elim (λ (is : (result ≡ it) × Written err err' (Adds (line_of it))). same (subst P is.0 holds))
       (λ (is : (result ≡ status.WriteFault) × Rose count count' × HasLine it × Written err err' (AddsFront (line_of it))). faulted (subst P is.0 holds)) reports
 
-  pub run_done : IsDone result → OfWords words (λ load. (job : Job) × IsStatusOf job.status result × PrintsJob Adds of salt load old new before after job)
+  pub run_done : IsDone result → OfWords words (λ asked. IsCarriedOut of salt asked old new before after result)
   run_done done =
       ⊎_elim
-      (λ (is : (result ≡ it) × Written err err' (Adds (line_of it))). subst (λ s. OfWords words (λ load. (job : Job) × IsStatusOf job.status s × PrintsJob Adds of salt load old new before after job)) (sym is.0) (answers.done (subst IsDone is.0 done)))
+      (λ (is : (result ≡ it) × Written err err' (Adds (line_of it))). subst (λ s. OfWords words (λ asked. IsCarriedOut of salt asked old new before after s)) (sym is.0) (answers.done (subst IsDone is.0 done)))
       (λ (is : (result ≡ status.WriteFault) × Rose count count' × HasLine it × Written err err' (AddsFront (line_of it))). absurd (subst IsDone is.0 done)) reports
 
-  pub run_begun : MayHaveBegun result → (after ≡ before) ⊎ OfWords words (λ load. (job : Job) × PrintsJob AddsFront of salt load old new before after job)
+  pub run_begun : MayHaveBegun result → (after ≡ before) ⊎ OfWords words (λ asked. IsBegun of salt asked old new before after)
   run_begun begun =
       ⊎_elim
       (λ (is : (result ≡ it) × Written err err' (Adds (line_of it))). answers.begun (subst MayHaveBegun is.0 begun))
@@ -56,6 +62,27 @@ module _ {D : Type 0} (of : Ghosts D) (files : Option Files) (salt : ℕ) (words
 
   pub run_quiet : IsQuiet result → after ≡ before
   run_quiet quiet = by_status IsQuiet (after ≡ before) (λ none. absurd none) answers.quiet quiet
+
+  pub run_nothing : IsNothing result → OfWords words (λ asked. FindsNothing of asked old result)
+  run_nothing nothing =
+      ⊎_elim
+      (λ (is : (result ≡ it) × Written err err' (Adds (line_of it))). subst (λ s. OfWords words (λ asked. FindsNothing of asked old s)) (sym is.0) (answers.nothing (subst IsNothing is.0 nothing)))
+      (λ (is : (result ≡ status.WriteFault) × Rose count count' × HasLine it × Written err err' (AddsFront (line_of it))). absurd (subst IsNothing is.0 nothing)) reports
+
+  -- each command may end in a write fault
+  faulted : (asked : Command) → IsEndOf asked status.WriteFault
+  faulted (command.Load load) = tt
+  faulted (command.Show what) = tt
+  faulted command.Help = tt
+
+  pub run_fits : (asked : Command) → AsksFor words asked → IsEndOf asked result × Keeps of asked old new
+  run_fits asked asks =
+      ⊎_elim
+      (λ (is : (result ≡ it) × Written err err' (Adds (line_of it))). (subst (λ s. IsEndOf asked s) (sym is.0) (answers.fits asked asks).0, (answers.fits asked asks).1))
+      (λ (is : (result ≡ status.WriteFault) × Rose count count' × HasLine it × Written err err' (AddsFront (line_of it))). (subst (λ s. IsEndOf asked s) (sym is.0) (faulted asked), (answers.fits asked asks).1)) reports
+
+  pub run_unopened : AskForNothing words → new ≡ old
+  run_unopened nothing = (answers.unasked nothing).1
 
   pub run_usage : result ≡ status.Usage → AskForNothing words
   run_usage is = by_status (λ s. s ≡ status.Usage) (AskForNothing words) (λ none. absurd (cc (none))) answers.usage is
@@ -70,6 +97,10 @@ module _ {D : Type 0} (of : Ghosts D) (files : Option Files) (salt : ℕ) (words
 
   pub run_bad : (place : ℕ) → result ≡ status.BadStore place → IsTold of old.journal → Judges (of.seen old.journal) (Err place)
   run_bad place is = by_status (λ s. s ≡ status.BadStore place) (IsTold of old.journal → Judges (of.seen old.journal) (Err place)) (λ none. absurd (cc (none))) (answers.bad_store place) is
+
+  pub run_full : result ≡ status.JournalFull → IsLeft of old → OfFiles files (λ told. OfWords words (λ asked. FindsNoRoom of told salt asked old new))
+  run_full is =
+      by_status (λ s. s ≡ status.JournalFull) (IsLeft of old → OfFiles files (λ told. OfWords words (λ asked. FindsNoRoom of told salt asked old new))) (λ none. absurd (cc (none))) answers.full is
 
   pub run_used : result ≡ status.NumbersUsedUp → IsUsedUp of old
   run_used is = by_status (λ s. s ≡ status.NumbersUsedUp) (IsUsedUp of old) (λ none. absurd (cc (none))) answers.used_up is
@@ -92,6 +123,8 @@ module _ {D : Type 0} (of : Ghosts D) (files : Option Files) (salt : ℕ) (words
   calm_end law image left calm status.NoMemory is = inl tt
   calm_end law image left calm status.JournalFull is = inl tt
   calm_end law image left calm status.NumbersUsedUp is = inl tt
+  calm_end law image left calm status.UnknownLoad is = inl tt
+  calm_end law image left calm status.NoRecords is = inl tt
 
   pub run_complete : NeverBad → ((c : List ℕ) → of.honest old.journal → of.seen old.journal ≡ Some c → of.may_leave old.journal c) → IsLeft of old
       → IsCalm (of.faults old.journal) (of.faults new.journal) was now count count' → IsCalmEnd result ⊎ AskForNothing words
@@ -101,5 +134,5 @@ module _ {D : Type 0} (of : Ghosts D) (files : Option Files) (salt : ℕ) (words
 
   pub run_unasked : AskForNothing words → IsCalm (of.faults old.journal) (of.faults new.journal) was now count count' → IsUnasked result
   run_unasked nothing calm =
-      ⊎_elim (λ (is : (result ≡ it) × Written err err' (Adds (line_of it))). subst IsUnasked (sym is.0) (answers.unasked nothing))
+      ⊎_elim (λ (is : (result ≡ it) × Written err err' (Adds (line_of it))). subst IsUnasked (sym is.0) (answers.unasked nothing).0)
       (λ (is : (result ≡ status.WriteFault) × Rose count count' × HasLine it × Written err err' (AddsFront (line_of it))). absurd (calm.err_calm is.1)) reports

@@ -1,6 +1,9 @@
 pub mod Words
 pub mod Options
+pub mod Commands
+pub mod Reading
 pub mod Statuses
+pub mod Ends
 pub mod JobTexts
 pub mod Outputs
 pub mod Printing
@@ -8,4 +11,7 @@ pub mod LoadFaults
 pub mod Stores
 pub mod Tags
 pub mod Loads
+pub mod LoadRuns
+pub mod Shown
+pub mod Shows
 pub mod Runs

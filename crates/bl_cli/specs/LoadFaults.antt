@@ -86,6 +86,8 @@ status_trouble (status.BadStore place) = Some (trouble.BadStore place)
 status_trouble status.NoMemory = Some trouble.NoMemory
 status_trouble status.JournalFull = None
 status_trouble status.NumbersUsedUp = None
+status_trouble status.UnknownLoad = None
+status_trouble status.NoRecords = None
 
 -- a fault of turns
 abbrev pub IsOfTurns : LoadFault → Type 0
@@ -95,6 +97,15 @@ IsOfTurns (fault.BadStore place) = Unit {0}
 IsOfTurns fault.NoMemory = Unit {0}
 IsOfTurns fault.JournalFull = Unit {0}
 IsOfTurns fault.NumbersUsedUp = ⊥
+
+-- a fault of a look at the store
+abbrev pub IsOfLook : LoadFault → Type 0
+IsOfLook fault.WriteFault = ⊥
+IsOfLook fault.StoreFault = Unit {0}
+IsOfLook (fault.BadStore place) = Unit {0}
+IsOfLook fault.NoMemory = Unit {0}
+IsOfLook fault.JournalFull = ⊥
+IsOfLook fault.NumbersUsedUp = ⊥
 
 -- one that isn't of the output
 abbrev pub IsOfStore : LoadFault → Type 0

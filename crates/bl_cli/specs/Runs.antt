@@ -1,5 +1,5 @@
 -- What a run of the program comes to.
-use Rattle.std.specs.Prelude.{◌≡◌, ◌⊎◌, ◌↔◌, ◌≤◌, ℕ, true, List, ◌++◌, take, None, Some, Result, Ok as ok, Err}
+use Rattle.std.specs.Prelude.{◌≡◌, ◌⊎◌, ℕ, List, Err}
 use Rattle.std.specs.declared.option.Option.{Option}
 use Rattle.bl_outside.specs.Counts.{Rose}
 use Rattle.bl_outside.specs.Folders.{Files}
@@ -7,151 +7,59 @@ use Rattle.bl_outside.specs.Sound.{IsSound}
 use Rattle.bl_outside.specs.declared.disk.Disk.{Ghosts}
 use Rattle.bl_outside.specs.declared.disks.Disks.{Disks}
 use Rattle.bl_queue.specs.declared.job.Job.{Job}
-use Rattle.bl_queue.specs.declared.job_status.JobStatus.{JobStatus}
-use Rattle.bl_queue.specs.declared.job_status.JobStatus.TheVariants.{Completed}
-use Rattle.bl_queue.specs.Statuses.{has_failed}
-use Rattle.bl_entry.specs.declared.entry.Entry.{Entry}
-use Rattle.bl_world.specs.States.{at_rest}
-use Rattle.bl_world.specs.Worlds.{IsWorldOf, World}
-use Rattle.bl_engine.specs.Calls.{Handles}
-use Rattle.bl_engine.specs.Engines.{IsAt, View}
-use Rattle.bl_engine.specs.Images.{HasEntries, IsLeft}
+use Rattle.bl_engine.specs.Images.{IsLeft}
 use Rattle.bl_engine.specs.Openings.{IsTold, Judges}
-use Rattle.bl_load.specs.Turns.{DrainsOver}
-use Rattle.bl_cli.specs.declared.asked.Asked.{Asked}
+use Rattle.bl_cli.specs.declared.help.TheConstants.{HELP}
+use Rattle.bl_cli.specs.declared.command.Command.{Command}
+use Rattle.bl_cli.specs.declared.command.Command.TheVariants as command
 use Rattle.bl_cli.specs.declared.status.Status.{Status}
-use Rattle.bl_cli.specs.declared.status.Status.TheVariants.{Ok, JobNotCompleted, Usage, WriteFault, StoreFault, BadStore, NoMemory, JournalFull, NumbersUsedUp}
-use Rattle.bl_cli.specs.LoadFaults.{status_trouble}
-use Rattle.bl_cli.specs.Loads.{IsLoadOf}
-use Rattle.bl_cli.specs.Outputs.{load_output}
+use Rattle.bl_cli.specs.declared.status.Status.TheVariants.{Ok, Usage, WriteFault, StoreFault, BadStore, JournalFull, NumbersUsedUp}
+use Rattle.bl_cli.specs.Commands.{AskForNothing, AsksFor}
+use Rattle.bl_cli.specs.Ends.{HasLine, IsDone, IsNothing, IsOfHelp, IsOfLoad, IsOfShow, IsQuiet, IsStatusOf, IsUnasked, MayHaveBegun}
+use Rattle.bl_cli.specs.LoadRuns.{HasNoPlace, IsUsedUp, PrintsJob}
 use Rattle.bl_cli.specs.Printing.{Adds, AddsFront, Written}
+use Rattle.bl_cli.specs.Shows.{HasNothing, PrintsShown}
 use Rattle.bl_cli.specs.Statuses.{line_of}
-use Rattle.bl_cli.specs.Stores.{OfFiles, RunsOver}
-use Rattle.bl_cli.specs.Words.{AskForNothing, AsksFor}
+use Rattle.bl_cli.specs.Stores.{IsUntouched, OfFiles, RunsOver}
 
--- ---- statuses
+-- ---- commands
 
--- the load was made and printed
-abbrev pub IsDone : Status → Type 0
-IsDone Ok = Unit {0}
-IsDone JobNotCompleted = Unit {0}
-IsDone Usage = ⊥
-IsDone WriteFault = ⊥
-IsDone StoreFault = ⊥
-IsDone (BadStore place) = ⊥
-IsDone NoMemory = ⊥
-IsDone JournalFull = ⊥
-IsDone NumbersUsedUp = ⊥
+-- A command was done, its whole output was added, and the status says how it ended.
+abbrev pub IsCarriedOut : {D : Type 0} → Ghosts D → ℕ → Command → Disks D → Disks D → Option (List ℕ) → Option (List ℕ) → Status → Type 0
+IsCarriedOut of salt (command.Load load) old new before after status = (it : Job) × IsStatusOf it.status status × PrintsJob Adds of salt load old new before after it
+IsCarriedOut of salt (command.Show what) old new before after status = (status ≡ Ok) × PrintsShown Adds of what old new before after
+IsCarriedOut of salt command.Help old new before after status = (status ≡ Ok) × Written before after (Adds HELP.now)
 
--- a status with a line on the error output
-abbrev pub HasLine : Status → Type 0
-HasLine Ok = ⊥
-HasLine JobNotCompleted = ⊥
-HasLine Usage = Unit {0}
-HasLine WriteFault = Unit {0}
-HasLine StoreFault = Unit {0}
-HasLine (BadStore place) = Unit {0}
-HasLine NoMemory = Unit {0}
-HasLine JournalFull = Unit {0}
-HasLine NumbersUsedUp = Unit {0}
+-- A command was done, and a front of its output was added.
+abbrev pub IsBegun : {D : Type 0} → Ghosts D → ℕ → Command → Disks D → Disks D → Option (List ℕ) → Option (List ℕ) → Type 0
+IsBegun of salt (command.Load load) old new before after = (it : Job) × PrintsJob AddsFront of salt load old new before after it
+IsBegun of salt (command.Show what) old new before after = PrintsShown AddsFront of what old new before after
+IsBegun of salt command.Help old new before after = Written before after (AddsFront HELP.now)
 
--- the output may have been begun
-abbrev pub MayHaveBegun : Status → Type 0
-MayHaveBegun Ok = ⊥
-MayHaveBegun JobNotCompleted = ⊥
-MayHaveBegun Usage = ⊥
-MayHaveBegun WriteFault = Unit {0}
-MayHaveBegun StoreFault = ⊥
-MayHaveBegun (BadStore place) = ⊥
-MayHaveBegun NoMemory = Unit {0}
-MayHaveBegun JournalFull = ⊥
-MayHaveBegun NumbersUsedUp = ⊥
+-- There was nothing that the command could show.
+abbrev pub FindsNothing : {D : Type 0} → Ghosts D → Command → Disks D → Status → Type 0
+FindsNothing of (command.Load load) disks status = ⊥
+FindsNothing of (command.Show what) disks status = HasNothing of what disks status
+FindsNothing of command.Help disks status = ⊥
 
--- nothing was printed
-abbrev pub IsQuiet : Status → Type 0
-IsQuiet Ok = ⊥
-IsQuiet JobNotCompleted = ⊥
-IsQuiet Usage = Unit {0}
-IsQuiet WriteFault = ⊥
-IsQuiet StoreFault = Unit {0}
-IsQuiet (BadStore place) = Unit {0}
-IsQuiet NoMemory = ⊥
-IsQuiet JournalFull = Unit {0}
-IsQuiet NumbersUsedUp = Unit {0}
+-- A load's next entry had no room in the journal.
+abbrev pub FindsNoRoom : {D : Type 0} → Ghosts D → Files → ℕ → Command → Disks D → Disks D → Type 0
+FindsNoRoom of files salt (command.Load load) old new = HasNoPlace of files salt load.request old new
+FindsNoRoom of files salt (command.Show what) old new = ⊥
+FindsNoRoom of files salt command.Help old new = ⊥
 
--- the status by that of the job
-abbrev pub IsStatusOf : JobStatus → Status → Type 0
-IsStatusOf ended Ok = ended ≡ Completed
-IsStatusOf ended JobNotCompleted = has_failed ended ≡ true
-IsStatusOf ended Usage = ⊥
-IsStatusOf ended WriteFault = ⊥
-IsStatusOf ended StoreFault = ⊥
-IsStatusOf ended (BadStore place) = ⊥
-IsStatusOf ended NoMemory = ⊥
-IsStatusOf ended JournalFull = ⊥
-IsStatusOf ended NumbersUsedUp = ⊥
+-- the statuses that it may have
+abbrev pub IsEndOf : Command → Status → Type 0
+IsEndOf (command.Load load) status = IsOfLoad status
+IsEndOf (command.Show what) status = IsOfShow status
+IsEndOf command.Help status = IsOfHelp status
 
--- ---- a load over an engine
-
--- The load was made, and its output, or a front of it, was added.
-pub record PrintsLoad {D : Type 0} (P : List ℕ → List ℕ → List ℕ → Type 0) (salt : ℕ) (load : Asked) (old new : View D) (before after : Option (List ℕ)) (it : Job) : Type 0 where
-  pub ready : new.ready ≡ true
-  pub job : IsLoadOf salt load.request old.world new.world it
-  pub prints : Written before after (P (load_output load.changes it new.world.commits))
-
-pub record LoadsOver {D : Type 0} (of : Ghosts D) (files : Option Files) (salt : ℕ) (load : Asked) (old new : View D) (before after : Option (List ℕ)) (was now : ℕ) (status : Status) : Type 0 where
-  pub done : IsDone status → (it : Job) × IsStatusOf it.status status × PrintsLoad Adds salt load old new before after it
-  pub begun : MayHaveBegun status → (after ≡ before) ⊎ ((it : Job) × PrintsLoad AddsFront salt load old new before after it)
-  pub quiet : IsQuiet status → after ≡ before
-  pub usage : ¬ (status ≡ Usage)
-  pub write_fault : status ≡ WriteFault → Rose was now
-  pub used_up : status ≡ NumbersUsedUp → old.world.kept.last ≡ 4294967295
-  pub drains : OfFiles files (λ told. (entries : List Entry) → IsAt of old entries → DrainsOver of told old new (at_rest entries))
-  pub handles : Handles of old new (status_trouble status)
-  pub later : was ≤ now
-
--- ---- a load over a store
-
--- The world that the store led to when it was opened, where its journal is told.
-abbrev pub WasFound : {D : Type 0} → Ghosts D → Disks D → World → Type 0
-WasFound of disks world = IsTold of disks.journal → Judges (of.seen disks.journal) (ok world)
-
--- A crash leaves entries that lead to this world.
-abbrev pub LeadsTo : {D : Type 0} → Ghosts D → Disks D → World → Type 0
-LeadsTo of disks world = (image : List ℕ) → of.may_leave disks.journal image → (entries : List Entry) × HasEntries image entries × IsWorldOf entries world
-
--- The load that is asked for was made, and has ended as this job in this world, to which the store
--- leads.
-pub record WasMade {D : Type 0} (of : Ghosts D) (salt : ℕ) (load : Asked) (old new : Disks D) (world : World) (it : Job) : Type 0 where
-  pub before : World
-  pub found : WasFound of old before
-  pub job : IsLoadOf salt load.request before world it
-  pub leads : (entries : List Entry) × IsWorldOf entries world
-  pub acknowledged : IsSound of old.journal → LeadsTo of new world
-
--- The same, and its output, or a front of it, was added.
-pub record PrintsJob {D : Type 0} (P : List ℕ → List ℕ → List ℕ → Type 0) (of : Ghosts D) (salt : ℕ) (load : Asked) (old new : Disks D) (before after : Option (List ℕ)) (it : Job) : Type 0 where
-  pub world : World
-  pub made : WasMade of salt load old new world it
-  pub prints : Written before after (P (load_output load.changes it world.commits))
-
--- the last number of a load was given when the store was opened
-abbrev pub IsUsedUp : {D : Type 0} → Ghosts D → Disks D → Type 0
-IsUsedUp of disks = (world : World) × WasFound of disks world × (world.kept.last ≡ 4294967295)
-
-pub record LoadRuns {D : Type 0} (of : Ghosts D) (files : Option Files) (salt : ℕ) (load : Asked) (old new : Disks D) (before after : Option (List ℕ)) (was now : ℕ) (status : Status) : Type 0 where
-  pub done : IsDone status → (it : Job) × IsStatusOf it.status status × PrintsJob Adds of salt load old new before after it
-  pub begun : MayHaveBegun status → (after ≡ before) ⊎ ((it : Job) × PrintsJob AddsFront of salt load old new before after it)
-  pub quiet : IsQuiet status → after ≡ before
-  pub usage : ¬ (status ≡ Usage)
-  pub write_fault : status ≡ WriteFault → Rose was now
-  pub store_fault : status ≡ StoreFault → Rose (of.faults old.journal) (of.faults new.journal)
-  pub bad_store : (place : ℕ) → status ≡ BadStore place → IsTold of old.journal → Judges (of.seen old.journal) (Err place)
-  pub used_up : status ≡ NumbersUsedUp → IsUsedUp of old
-  pub runs : IsLeft of old → OfFiles files (λ told. RunsOver of told old new)
-  pub left : IsLeft of old → OfFiles files (λ told. IsLeft of new)
-  pub slots : (new.left ≡ old.left) × (new.right ≡ old.right)
-  pub later : was ≤ now
+-- What it leaves alone. To show something, a store is opened, which settles an entry whose fate
+-- wasn't known; the help opens none.
+abbrev pub Keeps : {D : Type 0} → Ghosts D → Command → Disks D → Disks D → Type 0
+Keeps of (command.Load load) old new = Unit {0}
+Keeps of (command.Show what) old new = IsSound of old.journal → IsUntouched of old new
+Keeps of command.Help old new = new ≡ old
 
 -- ---- the line of the status
 
@@ -169,42 +77,23 @@ HasReported old new before now result =
 -- ---- the run
 
 -- a fact of what the words ask for
-abbrev pub OfWords : List (List ℕ) → (Asked → Type 0) → Type 0
-OfWords words P = (load : Asked) × AsksFor words load × P load
-
--- The words ask for nothing, and memory may run out.
-abbrev pub IsUnasked : Status → Type 0
-IsUnasked status = (status ≡ Usage) ⊎ (status ≡ NoMemory)
-
--- no count rose
-pub record IsCalm (disk disk' out out' err err' : ℕ) : Type 0 where
-  pub disk_calm : ¬ Rose disk disk'
-  pub out_calm : ¬ Rose out out'
-  pub err_calm : ¬ Rose err err'
-
--- the statuses of a load over a store that this program left, where no count rose
-abbrev pub IsCalmEnd : Status → Type 0
-IsCalmEnd Ok = Unit {0}
-IsCalmEnd JobNotCompleted = Unit {0}
-IsCalmEnd Usage = ⊥
-IsCalmEnd WriteFault = ⊥
-IsCalmEnd StoreFault = ⊥
-IsCalmEnd (BadStore place) = ⊥
-IsCalmEnd NoMemory = Unit {0}
-IsCalmEnd JournalFull = Unit {0}
-IsCalmEnd NumbersUsedUp = Unit {0}
+abbrev pub OfWords : List (List ℕ) → (Command → Type 0) → Type 0
+OfWords words P = (asked : Command) × AsksFor words asked × P asked
 
 -- What the words come to, but for the line of the status.
 pub record Answers {D : Type 0} (of : Ghosts D) (files : Option Files) (salt : ℕ) (words : List (List ℕ)) (old new : Disks D) (before after : Option (List ℕ)) (was now : ℕ) (status : Status) : Type 0 where
-  pub done : IsDone status → OfWords words (λ load. (it : Job) × IsStatusOf it.status status × PrintsJob Adds of salt load old new before after it)
-  pub begun : MayHaveBegun status → (after ≡ before) ⊎ OfWords words (λ load. (it : Job) × PrintsJob AddsFront of salt load old new before after it)
+  pub done : IsDone status → OfWords words (λ asked. IsCarriedOut of salt asked old new before after status)
+  pub begun : MayHaveBegun status → (after ≡ before) ⊎ OfWords words (λ asked. IsBegun of salt asked old new before after)
   pub quiet : IsQuiet status → after ≡ before
+  pub nothing : IsNothing status → OfWords words (λ asked. FindsNothing of asked old status)
+  pub fits : (asked : Command) → AsksFor words asked → IsEndOf asked status × Keeps of asked old new
   pub usage : status ≡ Usage → AskForNothing words
-  pub unasked : AskForNothing words → IsUnasked status
+  pub unasked : AskForNothing words → IsUnasked status × (new ≡ old)
   pub write_fault : status ≡ WriteFault → Rose was now
   pub store_fault : status ≡ StoreFault → Rose (of.faults old.journal) (of.faults new.journal)
   pub bad_store : (place : ℕ) → status ≡ BadStore place → IsTold of old.journal → Judges (of.seen old.journal) (Err place)
   pub used_up : status ≡ NumbersUsedUp → IsUsedUp of old
+  pub full : status ≡ JournalFull → IsLeft of old → OfFiles files (λ told. OfWords words (λ asked. FindsNoRoom of told salt asked old new))
   pub runs : IsLeft of old → OfFiles files (λ told. RunsOver of told old new)
   pub left : IsLeft of old → OfFiles files (λ told. IsLeft of new)
   pub slots : (new.left ≡ old.left) × (new.right ≡ old.right)

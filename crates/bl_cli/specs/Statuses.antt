@@ -1,7 +1,7 @@
 -- Exit statuses and the lines on the error output.
 use Rattle.std.specs.Prelude.{ℕ, codes, decimal, List, [], ◌∷◌, ◌++◌}
 use Rattle.bl_cli.specs.declared.status.Status.{Status}
-use Rattle.bl_cli.specs.declared.status.Status.TheVariants.{Ok, JobNotCompleted, Usage, WriteFault, StoreFault, BadStore, NoMemory, JournalFull, NumbersUsedUp}
+use Rattle.bl_cli.specs.declared.status.Status.TheVariants.{Ok, JobNotCompleted, Usage, WriteFault, StoreFault, BadStore, NoMemory, JournalFull, NumbersUsedUp, UnknownLoad, NoRecords}
 
 abbrev pub code_of : Status → ℕ
 code_of Ok = 0
@@ -13,6 +13,8 @@ code_of (BadStore place) = 6
 code_of NoMemory = 7
 code_of JournalFull = 10
 code_of NumbersUsedUp = 11
+code_of UnknownLoad = 12
+code_of NoRecords = 13
 
 -- what every line of the status begins with; of all but one it is the whole line
 abbrev pub plain_line : Status → List ℕ
@@ -25,6 +27,8 @@ plain_line (BadStore place) = codes "bl: bad store at "
 plain_line NoMemory = codes "bl: no memory" ++ 10 ∷ []
 plain_line JournalFull = codes "bl: journal full" ++ 10 ∷ []
 plain_line NumbersUsedUp = codes "bl: no load number is left" ++ 10 ∷ []
+plain_line UnknownLoad = codes "bl: unknown load" ++ 10 ∷ []
+plain_line NoRecords = codes "bl: no records" ++ 10 ∷ []
 
 abbrev pub place_behind : ℕ → List ℕ
 place_behind place = decimal place ++ 10 ∷ []
@@ -40,3 +44,5 @@ line_of (BadStore place) = codes "bl: bad store at " ++ place_behind place
 line_of NoMemory = codes "bl: no memory" ++ 10 ∷ []
 line_of JournalFull = codes "bl: journal full" ++ 10 ∷ []
 line_of NumbersUsedUp = codes "bl: no load number is left" ++ 10 ∷ []
+line_of UnknownLoad = codes "bl: unknown load" ++ 10 ∷ []
+line_of NoRecords = codes "bl: no records" ++ 10 ∷ []

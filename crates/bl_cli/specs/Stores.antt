@@ -1,5 +1,5 @@
 -- What a run makes of the store.
-use Rattle.std.specs.Prelude.{◌≡◌, ◌⊎◌, ℕ, List, ◌++◌, None, Some}
+use Rattle.std.specs.Prelude.{◌≡◌, ◌⊎◌, ℕ, List, ◌++◌, None, Some, Ok as ok}
 use Rattle.std.specs.declared.option.Option.{Option}
 use Rattle.bl_outside.specs.Folders.{Files}
 use Rattle.bl_outside.specs.Sound.{Since}
@@ -7,11 +7,25 @@ use Rattle.bl_outside.specs.declared.disk.Disk.{Ghosts}
 use Rattle.bl_outside.specs.declared.disks.Disks.{Disks}
 use Rattle.bl_journal.specs.Frames.{AsBefore}
 use Rattle.bl_entry.specs.declared.entry.Entry.{Entry}
+use Rattle.bl_world.specs.Worlds.{IsWorldOf, World}
 use Rattle.bl_world.specs.States.{AreNew, Grows, IsNew, Settles, State, at_rest, unsure}
 use Rattle.bl_chain.specs.Folders.{AreTablesOf}
 use Rattle.bl_chain.specs.MadeEntries.{IsMade}
 use Rattle.bl_engine.specs.Images.{HasEntries, IsImageOf}
+use Rattle.bl_engine.specs.Openings.{IsTold, Judges}
 use Rattle.bl_load.specs.Turns.{HasResumed}
+
+-- ---- what was found, and what is left
+
+-- The world that the store led to when it was opened, where its journal is told.
+abbrev pub WasFound : {D : Type 0} → Ghosts D → Disks D → World → Type 0
+WasFound of disks world = IsTold of disks.journal → Judges (of.seen disks.journal) (ok world)
+
+-- A crash leaves entries that lead to this world.
+abbrev pub LeadsTo : {D : Type 0} → Ghosts D → Disks D → World → Type 0
+LeadsTo of disks world = (image : List ℕ) → of.may_leave disks.journal image → (entries : List Entry) × HasEntries image entries × IsWorldOf entries world
+
+-- ---- what was done to it
 
 -- a fact of the files, where they are told
 abbrev pub OfFiles : Option Files → (Files → Type 0) → Type 0

@@ -1,4 +1,4 @@
--- The words of the command line.
+-- The words of `load`.
 use Rattle.std.specs.Prelude.{◌≡◌, ◌≢◌, ℕ, Bool, true, false, not, codes, unwrap_or, List, [], ◌∷◌, Some, None}
 use Rattle.std.specs.declared.option.Option.{Option}
 use Rattle.std.specs.List.{AllPairs, flat_map, list_any}
@@ -85,7 +85,7 @@ IsPlain request = (request.queue ≡ false) × (request.dependencies ≡ [])
 -- ---- the words
 
 -- `load`, a source, and options in any order, each at most once
-pub record AsksFor (words : List (List ℕ)) (load : Asked) : Type 0 where
+pub record AsksForLoad (words : List (List ℕ)) (load : Asked) : Type 0 where
   pub source : List ℕ
   pub options : List LoadOption
   pub words_are : words ≡ codes "load" ∷ (source ∷ flat_map option_words options)
@@ -94,6 +94,6 @@ pub record AsksFor (words : List (List ℕ)) (load : Asked) : Type 0 where
   pub kept_is : kept_source source ≡ Some kept
   pub load_is : load ≡ record { request = request_by kept options; changes = list_any is_changes options }
 
--- The words are outside the grammar.
-abbrev pub AskForNothing : List (List ℕ) → Type 0
-AskForNothing words = (load : Asked) → ¬ AsksFor words load
+-- They ask for no load.
+abbrev pub AskForNoLoad : List (List ℕ) → Type 0
+AskForNoLoad words = (load : Asked) → ¬ AsksForLoad words load

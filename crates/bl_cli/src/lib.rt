@@ -10,6 +10,9 @@
 #![tactic(auto)]
 
 mod asked;
+mod command;
+mod commands;
+mod help;
 mod job_text;
 mod load_fault;
 mod load_option;
@@ -17,7 +20,9 @@ mod loads;
 mod options;
 mod outputs;
 mod printing;
+mod shown;
 mod status;
+mod stream_words;
 mod top;
 mod words;
 

@@ -10,7 +10,7 @@ use itoa::Buffer;
 /// How a run ended. Contracts say when each comes.
 #[derive(Clone, Copy, Debug, PartialEq, Eq)]
 pub enum Status {
-    /// The load completed, and all was written.
+    /// What was asked for was done, and all was written. A load has completed.
     Ok,
     /// The job of the load ended otherwise than completed.
     JobNotCompleted,
@@ -28,6 +28,10 @@ pub enum Status {
     JournalFull,
     /// The last number of a load was given.
     NumbersUsedUp,
+    /// No load that is kept has the id.
+    UnknownLoad,
+    /// The page has no record.
+    NoRecords,
 }
 
 impl Status {
@@ -45,6 +49,8 @@ impl Status {
             Status::NoMemory => 7,
             Status::JournalFull => 10,
             Status::NumbersUsedUp => 11,
+            Status::UnknownLoad => 12,
+            Status::NoRecords => 13,
         }
     }
 
@@ -62,6 +68,8 @@ impl Status {
             Status::NoMemory => b"bl: no memory\n",
             Status::JournalFull => b"bl: journal full\n",
             Status::NumbersUsedUp => b"bl: no load number is left\n",
+            Status::UnknownLoad => b"bl: unknown load\n",
+            Status::NoRecords => b"bl: no records\n",
         }
     }
 

@@ -5,35 +5,44 @@ ghost use Rattle.bl_entry.specs.Valid.{IsRequest};
 ghost use Rattle.bl_queue.specs.Statuses.{has_ended};
 ghost use Rattle.bl_engine.specs.Images.{IsLeft};
 ghost use Rattle.bl_engine.specs.Openings.{IsTold, Judges, Opens, found_after, journal_after};
-ghost use Rattle.bl_cli.specs.Loads.{IsLoadOf};
-ghost use Rattle.bl_cli.specs.Printing.{Adds, AddsFront};
-ghost use Rattle.bl_cli.specs.Runs.{
-  Answers,
+ghost use Rattle.bl_cli.specs.Commands.{AskForNothing, AsksFor, IsLook};
+ghost use Rattle.bl_cli.specs.Ends.{
   HasLine,
-  HasReported,
   IsCalm,
   IsCalmEnd,
   IsDone,
+  IsNothing,
   IsQuiet,
   IsStatusOf,
   IsUnasked,
-  IsUsedUp,
-  LoadRuns,
-  LoadsOver,
   MayHaveBegun,
+};
+ghost use Rattle.bl_cli.specs.LoadRuns.{IsUsedUp, LoadRuns, LoadsOver};
+ghost use Rattle.bl_cli.specs.Runs.{
+  Answers,
+  FindsNoRoom,
+  FindsNothing,
+  HasReported,
+  IsBegun,
+  IsCarriedOut,
+  IsEndOf,
+  Keeps,
   OfWords,
-  PrintsJob,
   Reports,
 };
+ghost use Rattle.bl_cli.specs.Shows.{PrintsText, ShowRuns, ShowsOver};
 ghost use Rattle.bl_cli.specs.Stores.{OfFiles, RunsOver};
-ghost use Rattle.bl_cli.specs.Words.{AskForNothing, AsksFor, IsPlain};
+ghost use Rattle.bl_cli.specs.Words.{IsPlain};
 
 use crate::asked::Asked;
+use crate::command::{Command, Look};
+use crate::commands::read_words;
+use crate::help::HELP;
 use crate::load_fault::LoadFault;
 use crate::loads::make_load;
 use crate::printing::print_load;
+use crate::shown::tell;
 use crate::status::Status;
-use crate::words::read_words;
 use bl_engine::{Engine, Trouble, left_files_are_never_bad};
 use bl_outside::{Clock, Disk, Disks, Failed, Folder, NoMemory, Sink, Source, Steps};
 use bl_queue::{Job, JobStatus};
@@ -147,6 +156,58 @@ fn load<R: Threads + Sync, F: Folder, D: Disk, K: Clock, O: Sink>(
     }
 }
 
+// Writes a text.
+fn print<O: Sink>(text: &[u8], out: &mut O) -> Status
+    ensures { PrintsText (O.written out.old) (O.written out.new) (O.faults out.old)
+        (O.faults out.new) text.now result }
+{
+    match out.put(text) {
+        Ok(()) => Status::Ok,
+        Err(Failed) => Status::WriteFault,
+    }
+}
+
+// Shows what an engine that is ready has.
+fn show_over<D: Disk, O: Sink>(
+    alloc: Global,
+    look: Look,
+    engine: &mut Engine<D>,
+    out: &mut O,
+) -> Status
+    requires ready { engine.old.ready ≡ true }
+    requires valid { IsLook look }
+    ensures { ShowsOver ⟦<D as Disk>⟧ look engine.old engine.new (O.written out.old)
+        (O.written out.new) (O.faults out.old) (O.faults out.new) result }
+{
+    match tell(alloc, engine, look) {
+        Ok(text) => print(text.as_slice(), out),
+        Err(status) => status,
+    }
+}
+
+// Shows what a store has.
+fn show<D: Disk, O: Sink>(
+    alloc: Global,
+    look: Look,
+    disks: Disks<D>,
+    salt: u128,
+    out: &mut O,
+) -> (Status, Disks<D>)
+    requires { IsLook look }
+    ensures { ShowRuns ⟦<D as Disk>⟧ look disks result.1 (O.written out.old) (O.written out.new)
+        (O.faults out.old) (O.faults out.new) result.0 }
+{
+    match open_store(alloc, salt, disks) {
+        Err((trouble, disks)) => (LoadFault::from(trouble).status(), disks),
+        Ok(mut engine) => {
+            let status = show_over(alloc, look, &mut engine, out);
+            // The world of a ready engine is one of entries.
+            let _ = engine.is_ready();
+            (status, engine.into_disks())
+        }
+    }
+}
+
 // What the words ask for, without the line on the error output.
 fn answer<R: Threads + Sync, F: Folder, D: Disk, K: Clock, O: Sink>(
     rt: &R,
@@ -164,7 +225,9 @@ fn answer<R: Threads + Sync, F: Folder, D: Disk, K: Clock, O: Sink>(
     ensures files { F.files folder.new ≡ F.files folder.old }
 {
     match read_words(alloc, words) {
-        Ok(Some(asked)) => load(rt, alloc, asked, folder, disks, clock, salt, out),
+        Ok(Some(Command::Load(asked))) => load(rt, alloc, asked, folder, disks, clock, salt, out),
+        Ok(Some(Command::Show(look))) => show(alloc, look, disks, salt, out),
+        Ok(Some(Command::Help)) => (print(HELP, out), disks),
         Ok(None) => (Status::Usage, disks),
         Err(NoMemory) => (Status::NoMemory, disks),
     }
@@ -197,8 +260,9 @@ fn put_line<E: Sink>(status: Status, err: &mut E) -> Status
 ///
 /// `load` opens the store, makes all turns that are unfinished, takes its load on, makes all turns
 /// of it, and prints what it came to. Load ids are made of the salt, with which texts are hashed
-/// too. Status 2 and above write their line on the error output. The runtime is for the threads
-/// that convert records.
+/// too. `status` and `stream` open the store and print what it has, `help` prints a text. Status 2
+/// and above write their line on the error output. The runtime is for the threads that convert
+/// records.
 pub fn run<R: Threads + Sync, F: Folder, D: Disk, K: Clock, S: Source, O: Sink, E: Sink>(
     runtime: &R,
     alloc: Global,
@@ -211,19 +275,30 @@ pub fn run<R: Threads + Sync, F: Folder, D: Disk, K: Clock, S: Source, O: Sink, 
     out: &mut O,
     err: &mut E,
 ) -> (Status, Disks<D>)
-    // Ok and JobNotCompleted: the load that the words ask for was taken on and has ended, by which
-    // status its job says. All of its output was written, and each crash from now on leaves it
-    // ended.
-    ensures done { IsDone result.0 → OfWords (map string_bytes words.now) (λ load.
-        (it : _) × IsStatusOf it.status result.0 × PrintsJob Adds ⟦<D as Disk>⟧ salt load disks
-        result.1 (O.written out.old) (O.written out.new) it) }
+    // Ok and JobNotCompleted: what the words ask for was done, and all of its output was written. A
+    // load was taken on and has ended, by which status its job says, and each crash from now on
+    // leaves it ended. What is shown is that of the world which the opening found.
+    ensures done { IsDone result.0 → OfWords (map string_bytes words.now) (λ asked.
+        IsCarriedOut ⟦<D as Disk>⟧ salt asked disks result.1 (O.written out.old)
+        (O.written out.new) result.0) }
 
-    // Where a sink failed or memory ran out the output is a front of such a load's, or nothing was
-    // written. With every other status nothing was.
+    // Where a sink failed or memory ran out the output is a front of what it was to be, or nothing
+    // was written. With every other status nothing was.
     ensures begun { MayHaveBegun result.0 → (O.written out.new ≡ O.written out.old)
-        ⊎ OfWords (map string_bytes words.now) (λ load. (it : _) × PrintsJob AddsFront
-        ⟦<D as Disk>⟧ salt load disks result.1 (O.written out.old) (O.written out.new) it) }
+        ⊎ OfWords (map string_bytes words.now) (λ asked. IsBegun ⟦<D as Disk>⟧ salt asked disks
+        result.1 (O.written out.old) (O.written out.new)) }
     ensures quiet { IsQuiet result.0 → O.written out.new ≡ O.written out.old }
+
+    // UnknownLoad and NoRecords: the world that was found has no load of the id, or no event where
+    // the page is to begin.
+    ensures nothing { IsNothing result.0 → OfWords (map string_bytes words.now) (λ asked.
+        FindsNothing ⟦<D as Disk>⟧ asked disks result.0) }
+
+    // Each command has its own statuses. Nothing is appended to show something, and where help or
+    // nothing is asked for the store isn't opened.
+    ensures fits { (asked : _) → AsksFor (map string_bytes words.now) asked
+        → IsEndOf asked result.0 × Keeps ⟦<D as Disk>⟧ asked disks result.1 }
+    ensures unopened { AskForNothing (map string_bytes words.now) → result.1 ≡ disks }
 
     // Usage exactly where the words ask for nothing, but for want of memory.
     ensures usage { result.0 ≡ Status.Usage → AskForNothing (map string_bytes words.now) }
@@ -239,6 +314,12 @@ pub fn run<R: Threads + Sync, F: Folder, D: Disk, K: Clock, S: Source, O: Sink, 
         → IsTold ⟦<D as Disk>⟧ disks.journal → Judges (D.seen disks.journal) (Err place) }
     ensures used_up { result.0 ≡ Status.NumbersUsedUp → IsUsedUp ⟦<D as Disk>⟧ disks }
 
+    // A full journal: behind entries that were appended, the next one, of a turn or of the load
+    // itself, doesn't fit behind the gate at which the journal ends.
+    ensures full { result.0 ≡ Status.JournalFull → IsLeft ⟦<D as Disk>⟧ disks
+        → OfFiles (F.files folder.old) (λ files. OfWords (map string_bytes words.now) (λ asked.
+        FindsNoRoom ⟦<D as Disk>⟧ files salt asked disks result.1)) }
+
     // Over a store that this program left, and told files: a crash at any moment leaves what one
     // might have left before, or entries on the way of this run's; loads that were stopped and gone
     // on with come to what one uninterrupted load comes to; and the store is left so again.
@@ -247,7 +328,7 @@ pub fn run<R: Threads + Sync, F: Folder, D: Disk, K: Clock, S: Source, O: Sink, 
     ensures left { IsLeft ⟦<D as Disk>⟧ disks → OfFiles (F.files folder.old)
         (λ files. IsLeft ⟦<D as Disk>⟧ result.1) }
 
-    // Over such a store, where no count rose, the load was made, or the answer has another cause.
+    // Over such a store, where no count rose, the command was done, or the answer has another cause.
     ensures complete { IsLeft ⟦<D as Disk>⟧ disks
         → IsCalm (D.faults disks.journal) (D.faults result.1.journal) (O.faults out.old)
         (O.faults out.new) (E.faults err.old) (E.faults err.new)

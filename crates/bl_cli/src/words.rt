@@ -1,4 +1,4 @@
-// The words of the command line.
+// The words of `load`.
 ghost use Rattle.std.specs.Prelude.{
   ◌≡◌,
   [],
@@ -20,7 +20,7 @@ ghost use Rattle.bl_cli.specs.Options.{
   mode_named,
   option_named,
 };
-ghost use Rattle.bl_cli.specs.Words.{AskForNothing, AsksFor, IsPlain};
+ghost use Rattle.bl_cli.specs.Words.{AskForNoLoad, AsksForLoad, IsPlain};
 
 use crate::asked::Asked;
 use crate::load_option::LoadOption;
@@ -29,7 +29,7 @@ use bl_files::{LoadRequest, Mode, kept_source};
 use bl_outside::{List, NoMemory, Text};
 use std::alloc::Global;
 
-fn is_word(text: &str, word: &str) -> bool
+pub fn is_word(text: &str, word: &str) -> bool
     ensures { result ≡ is_word text.now word.now }
 {
     text == word
@@ -135,11 +135,11 @@ fn split(words: &[String]) -> Option<(&String, &[String])>
     words.split_first()
 }
 
-/// What the words behind ROOT and STORE ask for. None where they are outside the grammar.
-pub fn read_words(alloc: Global, words: &[String]) -> Result<Option<Asked>, NoMemory>
+/// The load that the words ask for, or none.
+pub fn read_load(alloc: Global, words: &[String]) -> Result<Option<Asked>, NoMemory>
     ensures asked { IfOk result (λ asked. MatchOption asked
-        (AskForNothing (map string_bytes words.now))
-        (AsksFor (map string_bytes words.now))) }
+        (AskForNoLoad (map string_bytes words.now))
+        (AsksForLoad (map string_bytes words.now))) }
     ensures valid { IfOk result (λ asked. IfSome asked (λ load. IsRequest load.request
         × IsPlain load.request)) }
 {

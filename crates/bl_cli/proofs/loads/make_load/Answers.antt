@@ -2,8 +2,14 @@ use Rattle.std.proofs.Common.{Ok, Err, sym, ap, subst, ◌∙◌}
 use Rattle.std.proofs.lemmas.Result.{err_from_is_err_and}
 use Rattle.bl_world.proofs.SureWorlds.{have_jobs}
 use Rattle.bl_cli.specs.Loads.{DrainsAll, Makes}
-use Rattle.bl_cli.proofs.MadeAll.{makes_found, makes_unended, makes_unsubmitted, tag_last}
+use Rattle.bl_cli.proofs.MadeAll.{makes_found, makes_undrained, makes_unended, makes_unsubmitted, tag_last}
 use Rattle.bl_cli.proofs.loads.make_load.Goals as goal
+
+pub returns-in_err-drain_all-clause-makes : goal.returns-in_err-drain_all-clause-makes
+returns-in_err-drain_all-clause-makes g c =
+    let p = err_from_is_err_and c.from_residual.result c.from_residual.ensures.1 in
+    subst (λ r. Makes g.D.Disk (g.F.Folder.files c.args.folder.now) c.args.salt c.args.request c.args.engine.now c.drain_all.new.engine r) (sym (p.1 ∙ ap (λ e. Err e) p.2))
+    (makes_undrained g.D.Disk (g.F.Folder.files c.args.folder.now) c.args.salt c.args.request c.args.engine.now c.drain_all.new.engine _ c.in_err-drain_all.ensures.drains)
 
 pub returns-in_err-id-clause-makes : goal.returns-in_err-id-clause-makes
 returns-in_err-id-clause-makes g c =

@@ -1,6 +1,6 @@
 use Rattle.std.proofs.Common.{sym, ap, subst, ◌∙◌}
 use Rattle.bl_cli.specs.LoadFaults.{status_of}
-use Rattle.bl_cli.specs.Runs.{LoadRuns}
+use Rattle.bl_cli.specs.LoadRuns.{LoadRuns}
 use Rattle.bl_cli.proofs.OpenedStores.{opened_runs, refused_runs}
 use Rattle.bl_cli.proofs.top.load.Goals as goal
 

@@ -2,7 +2,7 @@ use Rattle.std.proofs.Common.{sym, ap, subst, ◌∙◌}
 use Rattle.bl_cli.specs.LoadFaults.{print_fault_from, status_of}
 use Rattle.bl_cli.specs.Outputs.{load_output}
 use Rattle.bl_cli.specs.Printing.{Adds, AddsFront, Written}
-use Rattle.bl_cli.specs.Runs.{LoadsOver}
+use Rattle.bl_cli.specs.LoadRuns.{LoadsOver}
 use Rattle.bl_cli.proofs.LoadedEngines.{over_printed, over_unprinted}
 use Rattle.bl_cli.proofs.top.load_over.Goals as goal
 
