@@ -9,4 +9,6 @@ mod resume_tests;
 #[cfg(test)]
 mod run_tests;
 #[cfg(test)]
+mod stop_tests;
+#[cfg(test)]
 mod test_runs;

@@ -1,0 +1,197 @@
+// Loads that are stopped at a call of the journal, and what the store then comes to.
+ghost use Rattle.std.specs.Prelude.{◌≡◌, ◌<◌};
+
+use crate::test_runs::{FileTable, NOTHING, disk, folder_of, line, run_files, run_over};
+use bl_engine::{Engine, ViewRefusal};
+use bl_files::{Counts, totals};
+use bl_load::{Held, drain};
+use bl_outside::{
+    Disk, Disks, Faults, Fill, FixedClock, List, MemoryDisk, MemoryFolder, NoMemory, Outside,
+    Steps, Text,
+};
+use bl_queue::{Job, JobStatus};
+use bl_workers::OpenGate;
+use std::alloc::Global;
+use std::marker::Brand;
+use std::process::Abort;
+use std::sync::ledger::{Blank, Ledger};
+use std::thread::Threads;
+
+const BROKEN: FileTable = &[
+    ("f/a.csv", b"~id,age:Int\nv1,1\nv2,x\nv3,5\n"),
+    ("f/b.csv", b"~id\nw1\n"),
+];
+
+const MENDED: FileTable = &[
+    ("f/a.csv", b"~id,age:Int\nv1,1\nv2,7\nv3,5\n"),
+    ("f/b.csv", b"~id\nw1\n"),
+];
+
+// The id of the second load over the salt 0.
+const SECOND: u128 = 0x0000_0000_0000_4000_8000_0000_0000_0002;
+
+// ---- the store
+
+// All bytes that reads see.
+fn content(disk: &mut MemoryDisk) -> Result<Text, Outside> {
+    let size = disk.size()?;
+    disk.read_at(0, u32::try_from(size).unwrap_or(u32::MAX))
+}
+
+// What the journal has behind a load that stopped at a record.
+fn first_journal<R: Threads + Sync + Abort>(rt: &R, alloc: Global) -> Text {
+    let first = run_files(rt, alloc, "load s3://b/f", BROKEN, NOTHING);
+    let mut first = first.expect(rt, "memory");
+    let want = line(alloc, 1, "LOAD_FAILED 2 0 0 1 0").expect(rt, "memory");
+    assert!(rt; first.out.as_slice() == want.as_slice());
+    content(&mut first.disks.journal).expect(rt, "a journal")
+}
+
+// A store with this journal, whose calls fail from this one on.
+fn failing_from(alloc: Global, journal: &Text, call: u64) -> Result<Disks<MemoryDisk>, NoMemory> {
+    let plan = Faults::of(List::new(alloc), call);
+    Ok(Disks {
+        journal: MemoryDisk::new(alloc, journal.copy(alloc)?, plan)?,
+        left: disk(alloc, b"", 0)?,
+        right: disk(alloc, b"", 0)?,
+    })
+}
+
+// The store as a stop leaves it. The slots were not written.
+fn stopped(disks: Disks<MemoryDisk>, fill: Fill) -> Result<Disks<MemoryDisk>, NoMemory> {
+    Ok(Disks {
+        journal: disks.journal.stopped(fill)?,
+        left: disks.left,
+        right: disks.right,
+    })
+}
+
+// The store that is left where the second load is stopped at this call.
+fn left_at<R: Threads + Sync + Abort>(
+    rt: &R,
+    alloc: Global,
+    folder: &mut MemoryFolder,
+    journal: &Text,
+    call: u64,
+    fill: Fill,
+) -> Disks<MemoryDisk> {
+    let disks = failing_from(alloc, journal, call).expect(rt, "memory");
+    let words = "load s3://b/f --mode RESUME";
+    let second = run_over(rt, alloc, words, folder, disks, NOTHING);
+    let second = second.expect(rt, "memory");
+    stopped(second.disks, fill).expect(rt, "memory")
+}
+
+fn opened<L: Ledger>(
+    alloc: Global,
+    disks: Disks<MemoryDisk>,
+    blank: Blank,
+) -> Option<Engine<MemoryDisk>>
+    requires name { blank.name ≡ L.name }
+    requires parts { blank.parts ≡ L.parts }
+    requires some { 0 < blank.parts }
+{
+    let mut steps = Steps::<L>::new(blank);
+    match Engine::open_counted(alloc, 0, disks, &mut steps) {
+        Ok(engine) => Some(engine),
+        Err(_) => None,
+    }
+}
+
+fn open(alloc: Global, disks: Disks<MemoryDisk>) -> Option<Engine<MemoryDisk>> {
+    opened::<Brand>(alloc, disks, Blank::new(1))
+}
+
+// ---- what it comes to
+
+// All turns are made.
+fn drain_all<R: Threads + Sync + Abort>(
+    rt: &R,
+    alloc: Global,
+    folder: &mut MemoryFolder,
+    engine: &mut Engine<MemoryDisk>,
+) {
+    let mut held = Held::none();
+    let clock = &mut FixedClock::new(0);
+    let drained = drain(rt, alloc, engine, folder, clock, &mut held, &OpenGate);
+    assert!(rt; drained.is_ok());
+}
+
+// The commits have so many changes each.
+fn has_commits<R: Abort>(rt: &R, engine: &Engine<MemoryDisk>, sizes: &[usize]) {
+    let commits = engine.commits();
+    assert!(rt; commits.len() == sizes.len());
+    for (i, commit) in commits.as_slice().iter().enumerate() {
+        let size = commit.changes.len();
+        assert!(rt; sizes.get(i) == Some(&size), "{i}");
+    }
+}
+
+// The second load came to what it comes to without a stop: 4 vertices, of which 3 have an age.
+fn is_whole<R: Abort>(rt: &R, engine: &mut Engine<MemoryDisk>, job: &Job) {
+    let counts = Counts {
+        records: 4,
+        ..Counts::none()
+    };
+    assert!(rt; job.status == JobStatus::Completed && totals(&job.feeds) == counts);
+    assert!(rt; engine.sizes() == Ok((4, 0, 3)));
+    has_commits(rt, engine, &[2, 4, 1]);
+}
+
+// The second load is there, and whole, or it was not taken on.
+fn is_there<R: Abort>(rt: &R, engine: &mut Engine<MemoryDisk>) -> bool {
+    match engine.status(SECOND) {
+        Ok(job) => {
+            is_whole(rt, engine, &job);
+            true
+        }
+        Err(refusal) => {
+            assert!(rt; refusal == ViewRefusal::Unknown);
+            has_commits(rt, engine, &[2]);
+            false
+        }
+    }
+}
+
+// Where the second load is stopped at this call it is there or not, and whole.
+fn stop_at<R: Threads + Sync + Abort>(
+    rt: &R,
+    alloc: Global,
+    journal: &Text,
+    call: u64,
+    fill: Fill,
+    there: bool,
+) {
+    let mut folder = folder_of(alloc, MENDED, 0).expect(rt, "memory");
+    let disks = left_at(rt, alloc, &mut folder, journal, call, fill);
+    let mut engine = open(alloc, disks).expect(rt, "a store");
+    drain_all(rt, alloc, &mut folder, &mut engine);
+    assert!(rt; is_there(rt, &mut engine) == there, "call {call}, {fill:?}");
+}
+
+// ---- stops
+
+#[test]
+fn find_calls(rt: HostRuntime) {
+    let journal = first_journal(&rt, rt.alloc());
+    for call in 1u64..46 {
+        let mut folder = folder_of(rt.alloc(), MENDED, 0).expect(&rt, "memory");
+        let disks = failing_from(rt.alloc(), &journal, call).expect(&rt, "memory");
+        let words = "load s3://b/f --mode RESUME";
+        let second = run_over(&rt, rt.alloc(), words, &mut folder, disks, NOTHING).expect(&rt, "memory");
+        let ok = second.status;
+        for fill in [Fill::Old, Fill::New, Fill::Ones] {
+            let mut folder = folder_of(rt.alloc(), MENDED, 0).expect(&rt, "memory");
+            let disks = left_at(&rt, rt.alloc(), &mut folder, &journal, call, fill);
+            match open(rt.alloc(), disks) {
+                None => println!(rt; "{call} {ok:?} {fill:?} not opened").expect(&rt, "x"),
+                Some(mut engine) => {
+                    let seq = engine.seq();
+                    drain_all(&rt, rt.alloc(), &mut folder, &mut engine);
+                    let is = is_there(&rt, &mut engine);
+                    println!(rt; "{call} {ok:?} {fill:?} {seq} {is}").expect(&rt, "x");
+                }
+            }
+        }
+    }
+}
