@@ -1,6 +1,7 @@
 // Loads that are stopped at a call of the journal, and what the store then comes to.
 ghost use Rattle.std.specs.Prelude.{◌≡◌, ◌<◌};
 
+use bl_cli::Status;
 use crate::test_runs::{FileTable, NOTHING, disk, folder_of, line, run_files, run_over};
 use bl_engine::{Engine, ViewRefusal};
 use bl_files::{Counts, totals};
@@ -79,6 +80,7 @@ fn left_at<R: Threads + Sync + Abort>(
     let words = "load s3://b/f --mode RESUME";
     let second = run_over(rt, alloc, words, folder, disks, NOTHING);
     let second = second.expect(rt, "memory");
+    assert!(rt; second.status == Status::StoreFault, "call {call}");
     stopped(second.disks, fill).expect(rt, "memory")
 }
 
@@ -171,27 +173,44 @@ fn stop_at<R: Threads + Sync + Abort>(
 
 // ---- stops
 
+// To open the store takes 17 calls of the journal: a sync, the size and the head, three for each of
+// its four entries, and two at the closed gate. The second load has six entries: itself, its plan,
+// and of each of its files the rows and the end. Each takes a write and a sync behind the closed
+// gate, and a write and a sync of the gate.
+const FIRST_WRITE: u64 = 18;
+
+// The second load is stopped at each of its writes, before which all is synced. From the second
+// entry on it is there.
 #[test]
-fn find_calls(rt: HostRuntime) {
+fn a_load_that_is_stopped_at_a_write_comes_to_the_whole(rt: HostRuntime) {
     let journal = first_journal(&rt, rt.alloc());
-    for call in 1u64..46 {
-        let mut folder = folder_of(rt.alloc(), MENDED, 0).expect(&rt, "memory");
-        let disks = failing_from(rt.alloc(), &journal, call).expect(&rt, "memory");
-        let words = "load s3://b/f --mode RESUME";
-        let second = run_over(&rt, rt.alloc(), words, &mut folder, disks, NOTHING).expect(&rt, "memory");
-        let ok = second.status;
-        for fill in [Fill::Old, Fill::New, Fill::Ones] {
-            let mut folder = folder_of(rt.alloc(), MENDED, 0).expect(&rt, "memory");
-            let disks = left_at(&rt, rt.alloc(), &mut folder, &journal, call, fill);
-            match open(rt.alloc(), disks) {
-                None => println!(rt; "{call} {ok:?} {fill:?} not opened").expect(&rt, "x"),
-                Some(mut engine) => {
-                    let seq = engine.seq();
-                    drain_all(&rt, rt.alloc(), &mut folder, &mut engine);
-                    let is = is_there(&rt, &mut engine);
-                    println!(rt; "{call} {ok:?} {fill:?} {seq} {is}").expect(&rt, "x");
-                }
-            }
-        }
+    for write in 0u64..12 {
+        let call = FIRST_WRITE + 2 * write;
+        stop_at(&rt, rt.alloc(), &journal, call, Fill::New, write >= 2);
     }
+}
+
+// The same of each of its syncs, before which something isn't synced. From this one on it is there.
+fn stop_at_syncs<R: Threads + Sync + Abort>(rt: &R, alloc: Global, fill: Fill, from: u64) {
+    let journal = first_journal(rt, alloc);
+    for sync in 0u64..12 {
+        let call = FIRST_WRITE + 1 + 2 * sync;
+        stop_at(rt, alloc, &journal, call, fill, sync >= from);
+    }
+}
+
+#[test]
+fn what_is_not_synced_may_be_lost(rt: HostRuntime) {
+    stop_at_syncs(&rt, rt.alloc(), Fill::Old, 2);
+}
+
+// The second sync of the first entry is that of its gate.
+#[test]
+fn what_is_not_synced_may_be_there(rt: HostRuntime) {
+    stop_at_syncs(&rt, rt.alloc(), Fill::New, 1);
+}
+
+#[test]
+fn what_is_not_synced_may_be_other_bytes(rt: HostRuntime) {
+    stop_at_syncs(&rt, rt.alloc(), Fill::Ones, 2);
 }
