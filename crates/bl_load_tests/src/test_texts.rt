@@ -137,6 +137,12 @@ pub fn files<R: Abort>(rt: &R, alloc: Global, loader: &mut Loader, number: u32, 
     assert!(rt; text.as_str() == want, "{text} and not {want}");
 }
 
+/// The load of this number has so many files, and ended for no cause but theirs.
+pub fn has_feeds<R: Abort>(rt: &R, loader: &mut Loader, number: u32, count: usize) {
+    let job = loader.engine.status(id(number)).expect(rt, "kept");
+    assert!(rt; job.feeds.len() == count && job.end_log.is_none());
+}
+
 /// The load of this number ended for this cause, and not for one of a file.
 pub fn ends_by<R: Abort>(rt: &R, loader: &mut Loader, number: u32, code: LogCode) {
     let job = loader.engine.status(id(number)).expect(rt, "kept");

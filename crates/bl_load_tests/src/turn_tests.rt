@@ -1,6 +1,6 @@
 // Loads over folders and disks in memory, turn by turn.
-use crate::test_loader::{FileTable, Loader, folder, loader_over, loader_with, put, put_all, submit};
-use crate::test_texts::{commits, ends_by, files, loads, numbers, people, turns};
+use crate::test_loader::{FileTable, Loader, folder, loader_over, loader_with, put, put_all};
+use crate::test_texts::{commits, ends_by, files, has_feeds, loads, numbers, people};
 use bl_files::Mode;
 use bl_outside::{MemoryFolder, Text};
 use bl_value::LogCode;
@@ -83,51 +83,48 @@ fn a_batch_ends_at_a_thousand_rows(rt: HostRuntime) {
     }
 }
 
-// Four records have 16,384 values, or one fewer.
+// The first of five records has so many values, and each other 4,096.
+fn five_records<R: Threads + Sync + Abort>(rt: &R, alloc: Global, first: u32, want: &str) {
+    let bytes = numbers(alloc, first).expect(rt, "memory");
+    one_file(rt, alloc, bytes, want);
+}
+
 #[test]
-fn a_batch_ends_at_its_values(rt: HostRuntime) {
-    for (first, want) in [
-        (4096, "planned; 4 rows; 1 rows; completed; idle; "),
-        (4095, "planned; 5 rows; completed; idle; "),
-    ] {
-        let bytes = numbers(rt.alloc(), first).expect(&rt, "memory");
-        one_file(&rt, rt.alloc(), bytes, want);
-    }
+fn a_batch_ends_at_16384_values(rt: HostRuntime) {
+    let want = "planned; 4 rows; 1 rows; completed; idle; ";
+    five_records(&rt, rt.alloc(), 4096, want);
+}
+
+#[test]
+fn a_batch_of_16383_values_takes_another_row(rt: HostRuntime) {
+    let want = "planned; 5 rows; completed; idle; ";
+    five_records(&rt, rt.alloc(), 4095, want);
 }
 
 // ---- files
 
-// So many files that have no record.
-fn empty_files<R: Abort>(rt: &R, alloc: Global, count: u32) -> MemoryFolder {
+// So many files that aren't read.
+fn many_files<R: Abort>(rt: &R, alloc: Global, count: u32) -> MemoryFolder {
     let mut bucket = folder(rt, alloc, 65_536, 0);
     for number in 0..count {
-        let name = format!(in alloc; "{number}").expect(rt, "memory");
-        let bytes = Text::of_str(alloc, "~id\n").expect(rt, "memory");
-        put(rt, alloc, &mut bucket, name.as_str(), bytes);
+        let name = format!(in alloc; "{number}.gz").expect(rt, "memory");
+        put(rt, alloc, &mut bucket, name.as_str(), Text::new(alloc));
     }
     bucket
 }
 
-fn as_many_as_may_be<R: Threads + Sync + Abort>(rt: &R, alloc: Global, loader: &mut Loader) {
-    submit(rt, alloc, loader, Mode::New, false);
-    turns(rt, alloc, loader, 3, "planned; completed; completed; ");
-}
-
-fn one_too_many<R: Threads + Sync + Abort>(rt: &R, alloc: Global, loader: &mut Loader) {
-    loads(rt, alloc, loader, Mode::New, false, "planned; idle; ");
-    ends_by(rt, loader, 1, LogCode::TooManyFiles);
-}
-
 #[test]
 fn a_load_has_at_most_4096_files(rt: HostRuntime) {
-    let bucket = empty_files(&rt, rt.alloc(), 4096);
+    let bucket = many_files(&rt, rt.alloc(), 4096);
     let mut loader = loader_over(&rt, rt.alloc(), bucket);
-    as_many_as_may_be(&rt, rt.alloc(), &mut loader);
+    loads(&rt, rt.alloc(), &mut loader, Mode::New, false, "planned; idle; ");
+    has_feeds(&rt, &mut loader, 1, 4096);
 }
 
 #[test]
 fn a_load_of_4097_files_fails(rt: HostRuntime) {
-    let bucket = empty_files(&rt, rt.alloc(), 4097);
+    let bucket = many_files(&rt, rt.alloc(), 4097);
     let mut loader = loader_over(&rt, rt.alloc(), bucket);
-    one_too_many(&rt, rt.alloc(), &mut loader);
+    loads(&rt, rt.alloc(), &mut loader, Mode::New, false, "planned; idle; ");
+    ends_by(&rt, &mut loader, 1, LogCode::TooManyFiles);
 }
