@@ -1,9 +1,9 @@
 // Runs whose store, folder or streams fail.
-use bl_cli::Status;
 use crate::test_runs::{
     FOLDER_OF_TWO, Failing, FileTable, NOTHING, PEOPLE, count, folder_of, line, run_files,
     run_over, store,
 };
+use bl_cli::Status;
 use bl_outside::NoMemory;
 
 const STORE_FAULT: &[u8] = b"bl: store fault\n";

@@ -1,6 +1,6 @@
 // Loads that go on with others, over files that changed between them.
-use bl_cli::Status;
 use crate::test_runs::{NOTHING, Run, count, folder_of, go_on, put, run_over, store};
+use bl_cli::Status;
 use bl_outside::{MemoryFolder, NoMemory, Text};
 use std::alloc::Global;
 use std::thread::Threads;

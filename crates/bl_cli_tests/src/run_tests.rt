@@ -1,9 +1,9 @@
 // What runs come to.
-use bl_cli::Status;
 use crate::test_runs::{
     FOLDER_OF_TWO, FileTable, NOTHING, PEOPLE, Run, count, folder_of, go_on, line, put, run_files,
     run_over, store,
 };
+use bl_cli::Status;
 use bl_outside::{MemoryFolder, NoMemory, Text};
 use std::alloc::Global;
 

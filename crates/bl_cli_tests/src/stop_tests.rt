@@ -1,8 +1,8 @@
 // Loads that are stopped at a call of the journal, and what the store then comes to.
 ghost use Rattle.std.specs.Prelude.{◌≡◌, ◌<◌};
 
-use bl_cli::Status;
 use crate::test_runs::{FileTable, NOTHING, disk, folder_of, line, run_files, run_over};
+use bl_cli::Status;
 use bl_engine::{Engine, ViewRefusal};
 use bl_files::{Counts, totals};
 use bl_load::{Held, drain};
@@ -104,6 +104,9 @@ fn open(alloc: Global, disks: Disks<MemoryDisk>) -> Option<Engine<MemoryDisk>> {
     opened::<Brand>(alloc, disks, Blank::new(1))
 }
 
+// Lets an engine go. It has many parts, so that nothing else is done here.
+fn close(_engine: Engine<MemoryDisk>) {}
+
 // ---- what it comes to
 
 // All turns are made.
@@ -169,6 +172,7 @@ fn stop_at<R: Threads + Sync + Abort>(
     let mut engine = open(alloc, disks).expect(rt, "a store");
     drain_all(rt, alloc, &mut folder, &mut engine);
     assert!(rt; is_there(rt, &mut engine) == there, "call {call}, {fill:?}");
+    close(engine);
 }
 
 // ---- stops

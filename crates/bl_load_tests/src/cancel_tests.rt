@@ -2,7 +2,7 @@
 ghost use Rattle.std.specs.Prelude.{IfOk};
 ghost use Rattle.bl_load.specs.Tasks.{IsTask};
 
-use crate::test_loader::{Loader, cancel, loader_with, submit};
+use crate::test_loader::{Loader, cancel, end, loader_with, submit};
 use crate::test_texts::{commits, files, people, turns};
 use bl_engine::{Engine, Trouble, TurnRefusal};
 use bl_files::Mode;
@@ -60,6 +60,7 @@ fn alone<R: Threads + Sync + Abort>(rt: &R, alloc: Global, loader: &mut Loader) 
 fn nothing_is_committed_of_a_cancelled_load(rt: HostRuntime) {
     let mut loader = begin(&rt, rt.alloc(), 2, "planned; 1000 rows; ");
     alone(&rt, rt.alloc(), &mut loader);
+    end(loader);
 }
 
 // A second load waits, which goes on with this one, or with none, for 0.
@@ -87,11 +88,22 @@ fn before_another<R: Threads + Sync + Abort>(
 fn what_a_cancelled_load_prepared_is_made_by_the_next(rt: HostRuntime) {
     for (made, so_far, previous, want) in [
         (0, "", 0, "planned; 1000 rows; 2 rows; completed; idle; "),
-        (2, "planned; 1000 rows; ", 1, "planned; 2 rows; completed; idle; "),
-        (3, "planned; 1000 rows; 2 rows; ", 1, "planned; completed; idle; "),
+        (
+            2,
+            "planned; 1000 rows; ",
+            1,
+            "planned; 2 rows; completed; idle; ",
+        ),
+        (
+            3,
+            "planned; 1000 rows; 2 rows; ",
+            1,
+            "planned; completed; idle; ",
+        ),
     ] {
         let mut loader = begin(&rt, rt.alloc(), made, so_far);
         before_another(&rt, rt.alloc(), &mut loader, previous, want);
         commits(&rt, rt.alloc(), &loader, "2000; 4; ");
+        end(loader);
     }
 }

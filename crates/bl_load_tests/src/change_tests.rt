@@ -1,5 +1,7 @@
 // Folders that fail, or change between two turns.
-use crate::test_loader::{FileTable, Loader, folder, loader_of, loader_with, put, put_all, submit};
+use crate::test_loader::{
+    FileTable, Loader, end, folder, loader_of, loader_with, put, put_all, submit,
+};
 use crate::test_texts::{ends_by, files, loads, people, turns};
 use bl_files::Mode;
 use bl_load::Held;
@@ -23,6 +25,7 @@ fn a_folder_that_can_t_be_read_ends_the_load(rt: HostRuntime) {
     for call in 1..6 {
         let mut loader = loader_of(&rt, rt.alloc(), TWO, call);
         not_planned(&rt, rt.alloc(), &mut loader);
+        end(loader);
     }
 }
 
@@ -39,6 +42,7 @@ fn a_file_that_can_t_be_read_ends_the_load(rt: HostRuntime) {
     for call in 6..9 {
         let mut loader = loader_of(&rt, rt.alloc(), TWO, call);
         not_read(&rt, rt.alloc(), &mut loader);
+        end(loader);
     }
 }
 
@@ -71,6 +75,7 @@ fn held_with<R: Threads + Sync + Abort>(rt: &R, alloc: Global, count: u32) {
     let mut loader = half_way(rt, alloc);
     has_records(rt, alloc, &mut loader, count);
     turns(rt, alloc, &mut loader, 20, HELD);
+    end(loader);
 }
 
 #[test]
@@ -81,6 +86,7 @@ fn a_file_that_is_held_isn_t_read_again(rt: HostRuntime) {
     let mut loader = half_way(&rt, rt.alloc());
     has_files(&rt, rt.alloc(), &mut loader, &[]);
     turns(&rt, rt.alloc(), &mut loader, 20, HELD);
+    end(loader);
 }
 
 // As after a start of the loader nothing is held.
@@ -89,6 +95,7 @@ fn again_with<R: Threads + Sync + Abort>(rt: &R, alloc: Global, count: u32, want
     loader.held = Held::none();
     has_records(rt, alloc, &mut loader, count);
     turns(rt, alloc, &mut loader, 20, want);
+    end(loader);
 }
 
 #[test]
@@ -134,6 +141,7 @@ fn another_header_is_a_modified_file(rt: HostRuntime) {
     for table in &tables {
         let mut loader = half_way(&rt, rt.alloc());
         modified(&rt, rt.alloc(), &mut loader, table);
+        end(loader);
     }
 }
 
@@ -152,4 +160,5 @@ fn other_kind<R: Threads + Sync + Abort>(rt: &R, alloc: Global, loader: &mut Loa
 fn a_file_that_was_cut_stays_of_its_kind(rt: HostRuntime) {
     let mut loader = half_way(&rt, rt.alloc());
     other_kind(&rt, rt.alloc(), &mut loader);
+    end(loader);
 }

@@ -1,5 +1,5 @@
 // Loads that go on with others.
-use crate::test_loader::{FileTable, Loader, cancel, loader_with, put, submit};
+use crate::test_loader::{FileTable, Loader, cancel, end, loader_with, put, submit};
 use crate::test_texts::{commits, files, loads, people, turns};
 use bl_files::Mode;
 use std::alloc::Global;
@@ -46,6 +46,7 @@ fn a_stopped_load_is_resumed(rt: HostRuntime) {
     stopped(&rt, alloc, &mut loader);
     change(&rt, alloc, &mut loader, 1002, 0, "");
     resumed(&rt, alloc, &mut loader);
+    end(loader);
 }
 
 // A load is cancelled behind its first batch.
@@ -66,6 +67,7 @@ fn a_cancelled_load_is_gone_on_with(rt: HostRuntime) {
     loads(&rt, alloc, &mut loader, Mode::Auto, true, want);
     let want = "a.csv completed 1002; b.csv completed 1; ";
     files(&rt, alloc, &mut loader, 2, want);
+    end(loader);
 }
 
 // The age of the third of those that were taken is another one by now.
@@ -77,7 +79,14 @@ fn a_file_that_was_changed_is_not_gone_on_with(rt: HostRuntime) {
     change(&rt, alloc, &mut loader, 1002, 3, "0");
     let want = "planned; modified; idle; ";
     loads(&rt, alloc, &mut loader, Mode::Auto, true, want);
-    files(&rt, alloc, &mut loader, 2, "a.csv modified 1000; b.csv cut 0; ");
+    files(
+        &rt,
+        alloc,
+        &mut loader,
+        2,
+        "a.csv modified 1000; b.csv cut 0; ",
+    );
+    end(loader);
 }
 
 // ---- three loads
@@ -125,6 +134,7 @@ fn three_loads_come_to_the_whole(rt: HostRuntime) {
     second(&rt, alloc, &mut loader);
     third(&rt, alloc, &mut loader);
     all_is_there(&rt, alloc, &mut loader);
+    end(loader);
 }
 
 #[test]
@@ -134,4 +144,5 @@ fn one_load_comes_to_the_same(rt: HostRuntime) {
     let want = "planned; 1000 rows; 1000 rows; 3 rows; completed; 1 rows; completed; idle; ";
     loads(&rt, alloc, &mut loader, Mode::New, true, want);
     all_is_there(&rt, alloc, &mut loader);
+    end(loader);
 }

@@ -113,6 +113,9 @@ pub fn loader_with<R: Abort>(rt: &R, alloc: Global, bytes: Text, table: FileTabl
     loader_over(rt, alloc, files)
 }
 
+/// Lets a loader go. It has many parts, so each test hands it on to this one function.
+pub fn end(_loader: Loader) {}
+
 // ---- loads
 
 fn request(alloc: Global, mode: Mode, fail_on_error: bool) -> Option<LoadRequest>

@@ -1,5 +1,5 @@
 // Loads over folders and disks in memory, turn by turn.
-use crate::test_loader::{FileTable, Loader, folder, loader_over, loader_with, put, put_all};
+use crate::test_loader::{FileTable, Loader, end, folder, loader_over, loader_with, put, put_all};
 use crate::test_texts::{commits, ends_by, files, has_feeds, loads, numbers, people};
 use bl_files::Mode;
 use bl_outside::{MemoryFolder, Text};
@@ -47,6 +47,7 @@ fn mixed<R: Abort>(rt: &R, alloc: Global, piece: u32) -> Loader {
 fn mixed_in_pieces<R: Threads + Sync + Abort>(rt: &R, alloc: Global, piece: u32) {
     let mut loader = mixed(rt, alloc, piece);
     mixed_is_loaded(rt, alloc, &mut loader, 1);
+    end(loader);
 }
 
 #[test]
@@ -61,6 +62,7 @@ fn the_same_load_again_commits_nothing(rt: HostRuntime) {
     let mut loader = mixed(&rt, rt.alloc(), 4096);
     mixed_is_loaded(&rt, rt.alloc(), &mut loader, 1);
     mixed_is_loaded(&rt, rt.alloc(), &mut loader, 2);
+    end(loader);
 }
 
 // ---- batches
@@ -69,6 +71,7 @@ fn the_same_load_again_commits_nothing(rt: HostRuntime) {
 fn one_file<R: Threads + Sync + Abort>(rt: &R, alloc: Global, bytes: Text, want: &str) {
     let mut loader = loader_with(rt, alloc, bytes, &[]);
     loads(rt, alloc, &mut loader, Mode::New, false, want);
+    end(loader);
 }
 
 #[test]
@@ -117,14 +120,30 @@ fn many_files<R: Abort>(rt: &R, alloc: Global, count: u32) -> MemoryFolder {
 fn a_load_has_at_most_4096_files(rt: HostRuntime) {
     let bucket = many_files(&rt, rt.alloc(), 4096);
     let mut loader = loader_over(&rt, rt.alloc(), bucket);
-    loads(&rt, rt.alloc(), &mut loader, Mode::New, false, "planned; idle; ");
+    loads(
+        &rt,
+        rt.alloc(),
+        &mut loader,
+        Mode::New,
+        false,
+        "planned; idle; ",
+    );
     has_feeds(&rt, &mut loader, 1, 4096);
+    end(loader);
 }
 
 #[test]
 fn a_load_of_4097_files_fails(rt: HostRuntime) {
     let bucket = many_files(&rt, rt.alloc(), 4097);
     let mut loader = loader_over(&rt, rt.alloc(), bucket);
-    loads(&rt, rt.alloc(), &mut loader, Mode::New, false, "planned; idle; ");
+    loads(
+        &rt,
+        rt.alloc(),
+        &mut loader,
+        Mode::New,
+        false,
+        "planned; idle; ",
+    );
     ends_by(&rt, &mut loader, 1, LogCode::TooManyFiles);
+    end(loader);
 }
