@@ -16,7 +16,7 @@ use std::thread::Threads;
 
 // What is next. The world of a ready engine is one of entries, in which tasks have their parts.
 fn next_task<D: Disk>(engine: &mut Engine<D>) -> Result<Task, Trouble>
-    ensures has_parts { IfOk result IsTask }
+    ensures { IfOk result IsTask }
 {
     let task = engine.task()?;
     prove!(engine.is_ready());
