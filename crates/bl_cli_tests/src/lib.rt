@@ -11,4 +11,6 @@ mod run_tests;
 #[cfg(test)]
 mod show_tests;
 #[cfg(test)]
+mod stop_tests;
+#[cfg(test)]
 mod test_runs;

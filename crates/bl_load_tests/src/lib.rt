@@ -3,4 +3,16 @@
 #![tactic(auto)]
 
 #[cfg(test)]
+mod cancel_tests;
+#[cfg(test)]
+mod change_tests;
+#[cfg(test)]
+mod resume_tests;
+#[cfg(test)]
+mod test_loader;
+#[cfg(test)]
+mod test_texts;
+#[cfg(test)]
 mod tests;
+#[cfg(test)]
+mod turn_tests;

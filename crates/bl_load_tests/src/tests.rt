@@ -181,6 +181,7 @@ fn a_folder_is_planned(rt: HostRuntime) -> Result<(), Fail> {
     Ok(())
 }
 
+// Files that aren't read count too.
 #[test]
 fn a_load_has_at_most_4096_files(rt: HostRuntime) -> Result<(), Fail> {
     let alloc = rt.alloc();
@@ -189,15 +190,15 @@ fn a_load_has_at_most_4096_files(rt: HostRuntime) -> Result<(), Fail> {
         put(
             alloc,
             &mut files,
-            format!(in alloc; "b/f/{number}")?.as_str(),
-            "~id\n",
+            format!(in alloc; "b/f/{number}.gz")?.as_str(),
+            "",
         )?;
     }
     assert_eq!(rt;
         planned(&rt, alloc, &mut files, no_feeds(alloc))?.as_str(),
         "4096 files"
     );
-    put(alloc, &mut files, "b/f/one more", "~id\n")?;
+    put(alloc, &mut files, "b/f/one more.gz", "")?;
     assert_eq!(rt;
         planned(&rt, alloc, &mut files, no_feeds(alloc))?.as_str(),
         "4097 are too many"

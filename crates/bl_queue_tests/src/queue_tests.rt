@@ -6,6 +6,7 @@ use crate::test_jobs::{
 use bl_files::{FeedEnd, PlanResult};
 use bl_outside::List;
 use bl_queue::{CheckRefusal, JobStatus, Jobs, MOST_KEPT, copy_jobs};
+use std::alloc::Global;
 
 #[test]
 fn the_66th_load_finds_no_room(rt: HostRuntime) {
@@ -91,6 +92,44 @@ fn the_newest_1024_are_kept(rt: HostRuntime) {
     assert!(rt; jobs.kept().len() == MOST_KEPT && jobs.front() == Some(1));
     assert!(rt; status_of(&jobs, 1) == Some(JobStatus::NotStarted));
     assert!(rt; status_of(&jobs, 2) == None && status_of(&jobs, 3).is_some());
+}
+
+// A load of a source of its own is asked for and started: its run, and the load that it goes on with.
+fn run_of(alloc: Global, jobs: &mut Jobs) -> Option<(u32, u32)> {
+    let request = request_of(alloc, "s3://b/k", true, &[]).ok()?;
+    let number = ask(jobs, request).ok()??;
+    if !start(jobs, number, &no_files(alloc)) {
+        return None;
+    }
+    jobs.job(number).map(|job| (job.run, job.previous))
+}
+
+// So many loads of another source are taken on, and end.
+fn others_end(alloc: Global, jobs: &mut Jobs, count: usize) -> bool {
+    for _load in 0..count {
+        let Ok(Some(number)) = ask_with(alloc, jobs, &[]) else {
+            return false;
+        };
+        if !complete(jobs, number) {
+            return false;
+        }
+    }
+    true
+}
+
+// With the 1,024th load behind it a load is dropped, so that one begins anew. The 1,023rd goes on.
+#[test]
+fn a_load_that_is_dropped_is_not_gone_on_with(rt: HostRuntime) {
+    let mut jobs = Jobs::new(rt.alloc());
+    assert!(rt; run_of(rt.alloc(), &mut jobs) == Some((1, 0)));
+    assert!(rt; others_end(rt.alloc(), &mut jobs, MOST_KEPT - 2));
+    let copy = copy_jobs(rt.alloc(), jobs.kept()).expect(&rt, "memory");
+    let mut fewer = Jobs::from_kept(rt.alloc(), jobs.last(), copy);
+    assert!(rt; fewer.last() == 1023 && run_of(rt.alloc(), &mut fewer) == Some((2, 1)));
+    assert!(rt; fewer.kept().len() == MOST_KEPT && fewer.job(1).is_some());
+    assert!(rt; others_end(rt.alloc(), &mut jobs, 1) && jobs.kept().len() == MOST_KEPT);
+    assert!(rt; jobs.last() == 1024 && run_of(rt.alloc(), &mut jobs) == Some((1, 0)));
+    assert!(rt; jobs.kept().len() == MOST_KEPT && jobs.job(1).is_none());
 }
 
 #[test]
