@@ -18,7 +18,7 @@ fn each_call_of_the_journal_may_fail(rt: HostRuntime) -> Result<(), NoMemory> {
     for call in 1u64..60 {
         let mut folder = folder_of(alloc, FOLDER_OF_TWO, 0)?;
         let disks = store(alloc, b"", call)?;
-        let first = run_over(&rt, alloc, "load s3://b/f", &mut folder, disks, NOTHING)?;
+        let first = run_over(&rt, alloc, "load s3://b/f", &mut folder, disks, NOTHING);
         if first.status == Status::Ok {
             continue;
         }
@@ -35,7 +35,7 @@ fn each_call_of_the_journal_may_fail(rt: HostRuntime) -> Result<(), NoMemory> {
             &mut folder,
             first.disks,
             NOTHING,
-        )?;
+        );
         assert!(rt; second.status == Status::Ok, "after call {call}");
         assert!(rt; count(second.out.as_slice(), b" LOAD_COMPLETED 3 0 0 0 0\n") == 1);
     }
@@ -48,11 +48,11 @@ fn each_call_of_the_journal_may_fail(rt: HostRuntime) -> Result<(), NoMemory> {
 fn a_sink_that_fails_is_a_write_fault(rt: HostRuntime) -> Result<(), NoMemory> {
     let alloc = rt.alloc();
     let fails = Failing { out: 1, ..NOTHING };
-    let outcome = run_files(&rt, alloc, "load s3://b/f", FOLDER_OF_TWO, fails)?;
+    let outcome = run_files(&rt, alloc, "load s3://b/f", FOLDER_OF_TWO, fails);
     assert!(rt; outcome.status == Status::WriteFault && outcome.err.as_slice() == WRITE_FAULT);
     assert!(rt; outcome.out.as_slice() == b"00000000-0000-4000-8000-0000000".as_slice());
     let fails = Failing { err: 1, ..NOTHING };
-    let outcome = run_files(&rt, alloc, "load b/f", FOLDER_OF_TWO, fails)?;
+    let outcome = run_files(&rt, alloc, "load b/f", FOLDER_OF_TWO, fails);
     assert!(rt; outcome.status == Status::WriteFault && outcome.out.is_empty());
     assert!(rt; outcome.err.as_slice() == b"bl: usage:".as_slice());
     Ok(())
@@ -76,7 +76,7 @@ fn each_call_of_the_folder_may_fail(rt: HostRuntime) -> Result<(), NoMemory> {
                 folder: call,
                 ..NOTHING
             },
-        )?;
+        );
         if first.status == Status::Ok {
             continue;
         }
@@ -87,7 +87,7 @@ fn each_call_of_the_folder_may_fail(rt: HostRuntime) -> Result<(), NoMemory> {
         );
         let mut folder = folder_of(alloc, files, 0)?;
         let words = "load s3://b/f --mode RESUME --keep-going";
-        let second = run_over(&rt, alloc, words, &mut folder, first.disks, NOTHING)?;
+        let second = run_over(&rt, alloc, words, &mut folder, first.disks, NOTHING);
         let expected = line(alloc, 2, "LOAD_COMPLETED 2 0 0 0 0")?;
         if second.status == Status::Ok {
             resumed = resumed.saturating_add(1);
@@ -120,7 +120,7 @@ fn a_file_that_is_no_journal_is_a_bad_store(rt: HostRuntime) -> Result<(), NoMem
         let mut folder = folder_of(alloc, PEOPLE, 0)?;
         let disks = store(alloc, journal, 0)?;
         let words = "load s3://b/people.csv";
-        let outcome = run_over(&rt, alloc, words, &mut folder, disks, NOTHING)?;
+        let outcome = run_over(&rt, alloc, words, &mut folder, disks, NOTHING);
         assert!(rt; outcome.status == *status, "status of {journal:?}");
         assert!(rt; outcome.err.as_slice() == *err, "errors of {journal:?}");
     }

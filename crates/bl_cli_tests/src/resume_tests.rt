@@ -3,6 +3,7 @@ use crate::test_runs::{NOTHING, Run, count, folder_of, go_on, put, run_over, sto
 use bl_cli::Status;
 use bl_outside::{MemoryFolder, NoMemory, Text};
 use std::alloc::Global;
+use std::process::Abort;
 use std::thread::Threads;
 
 const A: (&str, &[u8]) = ("f/a.csv", b"~id\nv1\n");
@@ -120,7 +121,11 @@ const GONE: &[Run] = &[
 ];
 
 // How many runs of a table came to what they should, up to the first that didn't.
-fn runs_right<R: Threads + Sync>(rt: &R, alloc: Global, runs: &[Run]) -> Result<u32, NoMemory> {
+fn runs_right<R: Threads + Sync + Abort>(
+    rt: &R,
+    alloc: Global,
+    runs: &[Run],
+) -> Result<u32, NoMemory> {
     let mut disks = store(alloc, b"", 0)?;
     let mut right: u32 = 0;
     for run in runs {
@@ -175,12 +180,12 @@ fn a_record_in_the_middle_is_mended(rt: HostRuntime) -> Result<(), NoMemory> {
     let mut folder = folder_with(alloc, "x")?;
     let empty = store(alloc, b"", 0)?;
     let words = "load s3://b/f --changes";
-    let first = run_over(&rt, alloc, words, &mut folder, empty, NOTHING)?;
+    let first = run_over(&rt, alloc, words, &mut folder, empty, NOTHING);
     assert!(rt; count(first.out.as_slice(), b"\"commitNum\":1,") == 1000);
     assert!(rt; count(first.out.as_slice(), b" LOAD_FAILED 501 0 0 1 0\n") == 1);
     let mut folder = folder_with(alloc, "501")?;
     let words = "load s3://b/f --mode RESUME --changes";
-    let second = run_over(&rt, alloc, words, &mut folder, first.disks, NOTHING)?;
+    let second = run_over(&rt, alloc, words, &mut folder, first.disks, NOTHING);
     assert!(rt; count(second.out.as_slice(), b"\"commitNum\":2,") == 1004);
     assert!(rt; count(second.out.as_slice(), b"\"commitNum\":3,") == 1);
     assert!(rt; count(second.out.as_slice(), b" LOAD_COMPLETED 1003 0 0 0 0\n") == 1);

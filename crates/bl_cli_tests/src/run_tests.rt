@@ -153,7 +153,7 @@ fn other_words_are_refused(rt: HostRuntime) -> Result<(), NoMemory> {
         "load s3://b/f s3://b/f",
         "--changes load s3://b/f",
     ] {
-        let outcome = run_files(&rt, alloc, words, FOLDER_OF_TWO, NOTHING)?;
+        let outcome = run_files(&rt, alloc, words, FOLDER_OF_TWO, NOTHING);
         assert!(rt; outcome.status == Status::Usage, "status of {words}");
         assert!(rt; outcome.out.is_empty(), "output of {words}");
         assert!(rt; outcome.err.as_slice() == USAGE, "errors of {words}");
@@ -181,7 +181,7 @@ fn the_changes_of_a_load_are_printed_before_its_line(rt: HostRuntime) -> Result<
         "load s3://b/people.csv --changes",
         PEOPLE,
         NOTHING,
-    )?;
+    );
     assert!(rt; first.status == Status::Ok && first.out.as_slice() == FIRST_LOAD);
     let two = run_files(
         &rt,
@@ -189,11 +189,11 @@ fn the_changes_of_a_load_are_printed_before_its_line(rt: HostRuntime) -> Result<
         "load s3://b/f --changes",
         FOLDER_OF_TWO,
         NOTHING,
-    )?;
+    );
     assert!(rt; count(two.out.as_slice(), b"\n") == 4);
     assert!(rt; two.out.as_slice().ends_with(EDGE_LINE));
     let words = "load s3://b/f --update-single --changes";
-    let single = run_files(&rt, alloc, words, SINGLE_VALUE, NOTHING)?;
+    let single = run_files(&rt, alloc, words, SINGLE_VALUE, NOTHING);
     assert!(rt; count(single.out.as_slice(), NEW_SINGLE) == 1);
     Ok(())
 }
@@ -211,18 +211,18 @@ fn the_same_load_twice_adds_nothing(rt: HostRuntime) -> Result<(), NoMemory> {
         &mut folder,
         store(alloc, b"", 0)?,
         NOTHING,
-    )?;
+    );
     assert!(rt; first.status == Status::Ok);
-    let second = run_over(&rt, alloc, words, &mut folder, first.disks, NOTHING)?;
+    let second = run_over(&rt, alloc, words, &mut folder, first.disks, NOTHING);
     let expected = line(alloc, 2, "LOAD_COMPLETED 3 0 0 0 0")?;
     assert!(rt; second.status == Status::Ok && second.out.as_slice() == expected.as_slice());
     let words = "load s3://b/f --mode NEW --changes";
-    let third = run_over(&rt, alloc, words, &mut folder, second.disks, NOTHING)?;
+    let third = run_over(&rt, alloc, words, &mut folder, second.disks, NOTHING);
     let expected = line(alloc, 3, "LOAD_COMPLETED 3 3 0 0 0")?;
     assert!(rt; third.status == Status::Ok && third.out.as_slice() == expected.as_slice());
     put(alloc, &mut folder, "g.csv", b"~id\nv3\n")?;
     let words = "load s3://b/g.csv --changes";
-    let other = run_over(&rt, alloc, words, &mut folder, third.disks, NOTHING)?;
+    let other = run_over(&rt, alloc, words, &mut folder, third.disks, NOTHING);
     assert!(rt; other.status == Status::Ok && count(other.out.as_slice(), b"\n") == 2);
     assert!(rt; count(other.out.as_slice(), b"\"commitNum\":3,") == 1);
     Ok(())
@@ -265,7 +265,7 @@ fn a_stopped_load_goes_on_once_its_record_is_mended(rt: HostRuntime) -> Result<(
         &mut folder,
         store(alloc, b"", 0)?,
         NOTHING,
-    )?;
+    );
     assert!(rt; first.status == Status::JobNotCompleted);
     let expected = line(alloc, 1, "LOAD_FAILED 1001 0 0 1 0")?;
     assert!(rt; first.out.as_slice().ends_with(expected.as_slice()));
@@ -283,7 +283,7 @@ fn a_stopped_load_goes_on_once_its_record_is_mended(rt: HostRuntime) -> Result<(
         thousand(alloc, "7")?.as_slice(),
     )?;
     let words = "load s3://b/f --mode RESUME --changes";
-    let second = run_over(&rt, alloc, words, &mut folder, first.disks, NOTHING)?;
+    let second = run_over(&rt, alloc, words, &mut folder, first.disks, NOTHING);
     assert!(rt; second.status == Status::Ok);
     let expected = line(alloc, 2, "LOAD_COMPLETED 1003 0 0 0 0")?;
     assert!(rt; second.out.as_slice().ends_with(expected.as_slice()));

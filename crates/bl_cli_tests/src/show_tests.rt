@@ -6,6 +6,7 @@ use crate::test_runs::{
 use bl_cli::Status;
 use bl_outside::{Disk, Disks, MemoryDisk, NoMemory, Text};
 use std::alloc::Global;
+use std::process::Abort;
 use std::thread::Threads;
 
 const ID: &str = "00000000-0000-4000-8000-000000000001";
@@ -20,25 +21,19 @@ const EDGE: &str =
     "{\"commitTimestamp\":0,\"data\":{\"from\":\"v1\",\"id\":\"e1\",\"key\":\"label\",\"to\":\"v2\",\"type\":\"e\",\"value\":{\"dataType\":\"String\",\"value\":\"knows\"}},\"eventId\":{\"commitNum\":2,\"opNum\":1},\"isLastOp\":true,\"op\":\"ADD\"}";
 
 // A run over no files and this store.
-fn show<R: Threads + Sync>(
+fn show<R: Threads + Sync + Abort>(
     rt: &R,
     alloc: Global,
     words: &str,
     disks: Disks<MemoryDisk>,
     fails: Failing,
-) -> Result<Outcome, NoMemory> {
-    run_over(
-        rt,
-        alloc,
-        words,
-        &mut folder_of(alloc, &[], 0)?,
-        disks,
-        fails,
-    )
+) -> Outcome {
+    let mut folder = folder_of(alloc, &[], 0).expect(rt, "memory");
+    run_over(rt, alloc, words, &mut folder, disks, fails)
 }
 
 // Whether a run came to this, and the store that it left.
-fn comes_to<R: Threads + Sync>(
+fn comes_to<R: Threads + Sync + Abort>(
     rt: &R,
     alloc: Global,
     words: &str,
@@ -47,7 +42,7 @@ fn comes_to<R: Threads + Sync>(
     out: &str,
     err: &str,
 ) -> Result<(bool, Disks<MemoryDisk>), NoMemory> {
-    let outcome = show(rt, alloc, words, disks, NOTHING)?;
+    let outcome = show(rt, alloc, words, disks, NOTHING);
     let is = outcome.status == status
         && outcome.out.as_slice() == out.as_bytes()
         && outcome.err.as_slice() == err.as_bytes();
@@ -111,7 +106,7 @@ fn page(alloc: Global, commit: u32, op: u32, records: &[&str]) -> Result<String,
 #[test]
 fn a_page_has_the_records_that_are_asked_for(rt: HostRuntime) -> Result<(), NoMemory> {
     let alloc = rt.alloc();
-    let mut disks = run_files(&rt, alloc, "load s3://b/f", FOLDER_OF_TWO, NOTHING)?.disks;
+    let mut disks = run_files(&rt, alloc, "load s3://b/f", FOLDER_OF_TWO, NOTHING).disks;
     let table: [(&str, u32, u32, &[&str]); 6] = [
         ("stream --type LATEST", 2, 1, &[EDGE]),
         (
@@ -160,15 +155,15 @@ fn the_loads_of_a_store_are_shown(rt: HostRuntime) -> Result<(), NoMemory> {
     let load = "load s3://b/people.csv";
     let mut folder = folder_of(alloc, PEOPLE, 0)?;
     let disks = store(alloc, b"", 0)?;
-    let first = run_over(&rt, alloc, load, &mut folder, disks, NOTHING)?;
+    let first = run_over(&rt, alloc, load, &mut folder, disks, NOTHING);
     let words = format!(in alloc; "status {ID}")?;
     let status = Status::Ok;
     let (is, disks) = comes_to(&rt, alloc, words.as_str(), first.disks, status, LOADED, "")?;
     assert!(rt; is, "one load");
-    let second = run_over(&rt, alloc, load, &mut folder, disks, NOTHING)?;
+    let second = run_over(&rt, alloc, load, &mut folder, disks, NOTHING);
     let (is, _) = comes_to(&rt, alloc, "status", second.disks, status, IDS, "")?;
     assert!(rt; is, "two loads");
-    let failed = run_files(&rt, alloc, "load s3://b/f", MISTYPED, NOTHING)?;
+    let failed = run_files(&rt, alloc, "load s3://b/f", MISTYPED, NOTHING);
     let (is, _) = comes_to(&rt, alloc, words.as_str(), failed.disks, status, FAILED, "")?;
     assert!(rt; is, "a load that failed");
     Ok(())
@@ -185,18 +180,18 @@ fn journal_of(disks: &mut Disks<MemoryDisk>) -> Result<Text, NoMemory> {
 #[test]
 fn showing_leaves_the_store_as_it_is(rt: HostRuntime) -> Result<(), NoMemory> {
     let alloc = rt.alloc();
-    let mut loaded = run_files(&rt, alloc, "load s3://b/f", FOLDER_OF_TWO, NOTHING)?.disks;
+    let mut loaded = run_files(&rt, alloc, "load s3://b/f", FOLDER_OF_TWO, NOTHING).disks;
     let journal = journal_of(&mut loaded)?;
     let words = "stream --type TRIM_HORIZON";
     for call in 1u64..4 {
         let disks = store(alloc, journal.as_slice(), call)?;
-        let mut outcome = show(&rt, alloc, words, disks, NOTHING)?;
+        let mut outcome = show(&rt, alloc, words, disks, NOTHING);
         assert!(rt; outcome.status == Status::StoreFault && outcome.out.is_empty());
         assert!(rt; outcome.err.as_slice() == b"bl: store fault\n".as_slice());
         assert!(rt; journal_of(&mut outcome.disks)?.as_slice() == journal.as_slice());
     }
     let fails = Failing { out: 1, ..NOTHING };
-    let mut outcome = show(&rt, alloc, words, loaded, fails)?;
+    let mut outcome = show(&rt, alloc, words, loaded, fails);
     assert!(rt; outcome.status == Status::WriteFault);
     assert!(rt; outcome.err.as_slice() == b"bl: write fault\n".as_slice());
     assert!(rt; journal_of(&mut outcome.disks)?.as_slice() == journal.as_slice());
@@ -208,7 +203,7 @@ fn showing_leaves_the_store_as_it_is(rt: HostRuntime) -> Result<(), NoMemory> {
 fn help_needs_no_store(rt: HostRuntime) -> Result<(), NoMemory> {
     let alloc = rt.alloc();
     let disks = store(alloc, b"this is no journal at all", 1)?;
-    let outcome = show(&rt, alloc, "help", disks, NOTHING)?;
+    let outcome = show(&rt, alloc, "help", disks, NOTHING);
     assert!(rt; outcome.status == Status::Ok && outcome.err.is_empty());
     let text = str::from_utf8(outcome.out.as_slice()).unwrap_or("");
     for part in ["\n  load ", "\n  status ", "\n  stream ", "\n  help "] {

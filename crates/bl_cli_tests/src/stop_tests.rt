@@ -41,8 +41,7 @@ fn content(disk: &mut MemoryDisk) -> Result<Text, Outside> {
 
 // What the journal has behind a load that stopped at a record.
 fn first_journal<R: Threads + Sync + Abort>(rt: &R, alloc: Global) -> Text {
-    let first = run_files(rt, alloc, "load s3://b/f", BROKEN, NOTHING);
-    let mut first = first.expect(rt, "memory");
+    let mut first = run_files(rt, alloc, "load s3://b/f", BROKEN, NOTHING);
     let want = line(alloc, 1, "LOAD_FAILED 2 0 0 1 0").expect(rt, "memory");
     assert!(rt; first.out.as_slice() == want.as_slice());
     content(&mut first.disks.journal).expect(rt, "a journal")
@@ -79,7 +78,6 @@ fn left_at<R: Threads + Sync + Abort>(
     let disks = failing_from(alloc, journal, call).expect(rt, "memory");
     let words = "load s3://b/f --mode RESUME";
     let second = run_over(rt, alloc, words, folder, disks, NOTHING);
-    let second = second.expect(rt, "memory");
     assert!(rt; second.status == Status::StoreFault, "call {call}");
     stopped(second.disks, fill).expect(rt, "memory")
 }

@@ -5,6 +5,7 @@ use bl_outside::{
     Text,
 };
 use std::alloc::{AllocError, Global};
+use std::process::Abort;
 use std::thread::Threads;
 
 #[derive(Drop)]
@@ -96,19 +97,28 @@ pub(crate) fn put(
     )
 }
 
+// A sink of which this call fails.
+fn sink<R: Abort>(rt: &R, alloc: Global, fails: u64) -> MemorySink {
+    MemorySink::new(alloc, faults_at(alloc, fails).expect(rt, "memory"))
+}
+
+fn written<R: Abort>(rt: &R, alloc: Global, sink: &MemorySink) -> Text {
+    sink.bytes().copy(alloc).expect(rt, "memory")
+}
+
 // A run over this folder and this store.
-pub(crate) fn run_over<R: Threads + Sync>(
+pub(crate) fn run_over<R: Threads + Sync + Abort>(
     rt: &R,
     alloc: Global,
     words: &str,
     folder: &mut MemoryFolder,
     disks: Disks<MemoryDisk>,
     fails: Failing,
-) -> Result<Outcome, NoMemory> {
+) -> Outcome {
     let mut input = MemorySource::new(Text::new(alloc), 1, Faults::none(alloc));
-    let mut out = MemorySink::new(alloc, faults_at(alloc, fails.out)?);
-    let mut err = MemorySink::new(alloc, faults_at(alloc, fails.err)?);
-    let words = words_of(alloc, words)?;
+    let mut out = sink(rt, alloc, fails.out);
+    let mut err = sink(rt, alloc, fails.err);
+    let words = words_of(alloc, words).expect(rt, "memory");
     let (status, disks) = run(
         rt,
         alloc,
@@ -121,24 +131,24 @@ pub(crate) fn run_over<R: Threads + Sync>(
         &mut out,
         &mut err,
     );
-    Ok(Outcome {
+    Outcome {
         status,
-        out: out.bytes().copy(alloc)?,
-        err: err.bytes().copy(alloc)?,
+        out: written(rt, alloc, &out),
+        err: written(rt, alloc, &err),
         disks,
-    })
+    }
 }
 
 // A run over these files and an empty store.
-pub(crate) fn run_files<R: Threads + Sync>(
+pub(crate) fn run_files<R: Threads + Sync + Abort>(
     rt: &R,
     alloc: Global,
     words: &str,
     files: FileTable,
     fails: Failing,
-) -> Result<Outcome, NoMemory> {
-    let mut folder = folder_of(alloc, files, fails.folder)?;
-    let disks = store(alloc, b"", fails.journal)?;
+) -> Outcome {
+    let mut folder = folder_of(alloc, files, fails.folder).expect(rt, "memory");
+    let disks = store(alloc, b"", fails.journal).expect(rt, "memory");
     run_over(rt, alloc, words, &mut folder, disks, fails)
 }
 
@@ -146,7 +156,7 @@ pub(crate) fn run_files<R: Threads + Sync>(
 pub(crate) type Run = (FileTable, &'static str, Status, &'static str);
 
 // Whether a run of a table came to what it should, over this store, and the store that it left.
-pub(crate) fn go_on<R: Threads + Sync>(
+pub(crate) fn go_on<R: Threads + Sync + Abort>(
     rt: &R,
     alloc: Global,
     number: u32,
@@ -155,7 +165,7 @@ pub(crate) fn go_on<R: Threads + Sync>(
 ) -> Result<(bool, Disks<MemoryDisk>), NoMemory> {
     let (files, words, status, rest) = run;
     let mut folder = folder_of(alloc, files, 0)?;
-    let outcome = run_over(rt, alloc, words, &mut folder, disks, NOTHING)?;
+    let outcome = run_over(rt, alloc, words, &mut folder, disks, NOTHING);
     let line = line(alloc, number, rest)?;
     let is = outcome.status == *status
         && outcome.out.as_slice() == line.as_slice()
