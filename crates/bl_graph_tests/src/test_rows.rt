@@ -1,8 +1,9 @@
 // Rows, changes and verdicts as the tables of tests write them.
 use bl_graph::Verdict;
-use bl_outside::{List, NoMemory, Text};
+use bl_outside::{List, Text};
 use bl_value::{Change, LogCode, Property, Row, Side, Value};
 use std::alloc::Global;
+use std::process::Abort;
 
 /// A value.
 #[derive(Clone, Copy, Debug)]
@@ -37,7 +38,7 @@ pub enum Line {
 
 /// A change: a label of a vertex, an edge with its id, `from`, `to` and label, or a value with its
 /// side, id and key.
-#[derive(Clone, Copy, Debug)]
+#[derive(Clone, Copy)]
 pub enum Step {
     Label(&'static str, &'static str),
     Edge(&'static str, &'static str, &'static str, &'static str),
@@ -46,127 +47,128 @@ pub enum Step {
 }
 
 /// A verdict.
-#[derive(Clone, Copy, Debug)]
+#[derive(Clone, Copy)]
 pub enum Answer {
     Changes(&'static [Step]),
     Duplicate,
     Refused(LogCode, u32),
 }
 
-pub fn text(alloc: Global, word: &str) -> Result<Text, NoMemory> {
-    Text::copy_of(alloc, word.as_bytes())
+pub fn text<R: Abort>(rt: &R, alloc: Global, word: &str) -> Text {
+    Text::copy_of(alloc, word.as_bytes()).expect(rt, "memory")
 }
 
-fn texts(alloc: Global, words: &[&str]) -> Result<List<Text>, NoMemory> {
+fn texts<R: Abort>(rt: &R, alloc: Global, words: &[&str]) -> List<Text> {
     let mut texts = List::new(alloc);
     for word in words {
-        texts.push(text(alloc, word)?)?;
+        texts.push(text(rt, alloc, word)).expect(rt, "memory");
     }
-    Ok(texts)
+    texts
 }
 
-fn value(alloc: Global, given: Given) -> Result<Value, NoMemory> {
-    Ok(match given {
+fn value<R: Abort>(rt: &R, alloc: Global, given: Given) -> Value {
+    match given {
         Given::Truth(truth) => Value::Bool(truth),
         Given::Byte(number) => Value::Byte(number),
         Given::Int(number) => Value::Int(number),
         Given::Long(number) => Value::Long(number),
-        Given::Word(word) => Value::Str(text(alloc, word)?),
+        Given::Word(word) => Value::Str(text(rt, alloc, word)),
         Given::Date(seconds) => Value::Date(seconds),
-    })
+    }
 }
 
-fn values(alloc: Global, all: &[Given]) -> Result<List<Value>, NoMemory> {
+fn values<R: Abort>(rt: &R, alloc: Global, all: &[Given]) -> List<Value> {
     let mut values = List::new(alloc);
     for given in all {
-        values.push(value(alloc, *given)?)?;
+        values.push(value(rt, alloc, *given)).expect(rt, "memory");
     }
-    Ok(values)
+    values
 }
 
-fn property(alloc: Global, column: u32, at: At) -> Result<Property, NoMemory> {
-    Ok(match at {
+fn property<R: Abort>(rt: &R, alloc: Global, column: u32, at: At) -> Property {
+    match at {
         At::Set(key, all) => Property {
-            key: text(alloc, key)?,
+            key: text(rt, alloc, key),
             column,
             single: false,
-            values: values(alloc, all)?,
+            values: values(rt, alloc, all),
         },
         At::Single(key, given) => Property {
-            key: text(alloc, key)?,
+            key: text(rt, alloc, key),
             column,
             single: true,
-            values: values(alloc, &[given])?,
+            values: values(rt, alloc, &[given]),
         },
-    })
+    }
 }
 
-fn properties(alloc: Global, first: u32, all: &[At]) -> Result<List<Property>, NoMemory> {
+fn properties<R: Abort>(rt: &R, alloc: Global, first: u32, all: &[At]) -> List<Property> {
     let mut properties = List::new(alloc);
     let mut column = first;
     for at in all {
-        properties.push(property(alloc, column, *at)?)?;
+        let property = property(rt, alloc, column, *at);
+        properties.push(property).expect(rt, "memory");
         column = column.saturating_add(1);
     }
-    Ok(properties)
+    properties
 }
 
-pub fn row(alloc: Global, line: Line) -> Result<Row, NoMemory> {
-    Ok(match line {
+pub fn row<R: Abort>(rt: &R, alloc: Global, line: Line) -> Row {
+    match line {
         Line::Vertex(id, labels, all) => Row::Vertex {
-            id: text(alloc, id)?,
-            labels: texts(alloc, labels)?,
-            properties: properties(alloc, 3, all)?,
+            id: text(rt, alloc, id),
+            labels: texts(rt, alloc, labels),
+            properties: properties(rt, alloc, 3, all),
         },
         Line::Edge(id, from, to, label, all) => Row::Edge {
-            id: text(alloc, id)?,
-            label: text(alloc, label)?,
-            from: text(alloc, from)?,
-            to: text(alloc, to)?,
-            properties: properties(alloc, 5, all)?,
+            id: text(rt, alloc, id),
+            label: text(rt, alloc, label),
+            from: text(rt, alloc, from),
+            to: text(rt, alloc, to),
+            properties: properties(rt, alloc, 5, all),
         },
         Line::Bad(code, column) => Row::Bad { code, column },
-    })
+    }
 }
 
-pub fn change(alloc: Global, step: Step) -> Result<Change, NoMemory> {
-    Ok(match step {
+pub fn change<R: Abort>(rt: &R, alloc: Global, step: Step) -> Change {
+    match step {
         Step::Label(id, label) => Change::AddLabel {
-            id: text(alloc, id)?,
-            label: text(alloc, label)?,
+            id: text(rt, alloc, id),
+            label: text(rt, alloc, label),
         },
         Step::Edge(id, from, to, label) => Change::AddEdge {
-            id: text(alloc, id)?,
-            label: text(alloc, label)?,
-            from: text(alloc, from)?,
-            to: text(alloc, to)?,
+            id: text(rt, alloc, id),
+            label: text(rt, alloc, label),
+            from: text(rt, alloc, from),
+            to: text(rt, alloc, to),
         },
         Step::Add(side, id, key, given) => Change::AddValue {
             side,
-            id: text(alloc, id)?,
-            key: text(alloc, key)?,
-            value: value(alloc, given)?,
+            id: text(rt, alloc, id),
+            key: text(rt, alloc, key),
+            value: value(rt, alloc, given),
         },
         Step::Remove(side, id, key, given) => Change::RemoveValue {
             side,
-            id: text(alloc, id)?,
-            key: text(alloc, key)?,
-            value: value(alloc, given)?,
+            id: text(rt, alloc, id),
+            key: text(rt, alloc, key),
+            value: value(rt, alloc, given),
         },
-    })
+    }
 }
 
-pub fn verdict(alloc: Global, answer: Answer) -> Result<Verdict, NoMemory> {
+pub fn verdict<R: Abort>(rt: &R, alloc: Global, answer: Answer) -> Verdict {
     match answer {
         Answer::Changes(steps) => {
             let mut changes = List::new(alloc);
             for step in steps {
-                changes.push(change(alloc, *step)?)?;
+                changes.push(change(rt, alloc, *step)).expect(rt, "memory");
             }
-            Ok(Verdict::Changes(changes))
+            Verdict::Changes(changes)
         }
-        Answer::Duplicate => Ok(Verdict::Duplicate),
-        Answer::Refused(code, column) => Ok(Verdict::Refused(code, column)),
+        Answer::Duplicate => Verdict::Duplicate,
+        Answer::Refused(code, column) => Verdict::Refused(code, column),
     }
 }
 

@@ -1,34 +1,34 @@
 // Rows and what they do to a graph, one after the other.
-use crate::test_rows::{ANN, Answer, At, BOB, Line, Step, is_same_verdict, row, text, verdict};
+use crate::test_rows::{ANN, Answer, At, BOB, Line, Step, is_same_verdict, row, verdict};
 use bl_graph::{Graph, Verdict};
-use bl_outside::{List, NoMemory};
+use bl_outside::List;
 use bl_value::{Change, LogCode, Side};
 use std::alloc::Global;
+use std::process::Abort;
 
 // Applies the changes, each of which is to fit.
-fn applies(graph: &mut Graph, changes: &List<Change>) -> Result<bool, NoMemory> {
+fn applies<R: Abort>(rt: &R, graph: &mut Graph, changes: &List<Change>) {
     for change in changes.as_slice() {
-        if !graph.fits(change) {
-            return Ok(false);
-        }
-        graph.apply(change)?;
+        assert!(rt; graph.fits(change), "a change that does not fit");
+        graph.apply(change).expect(rt, "memory");
     }
-    Ok(true)
 }
 
-// Whether the row has this verdict. Its changes are applied.
-fn answers(
+// The row has this verdict. Its changes are applied.
+fn answers<R: Abort>(
+    rt: &R,
     alloc: Global,
     graph: &mut Graph,
     update_single: bool,
     line: Line,
     expected: Answer,
-) -> Result<bool, NoMemory> {
-    let given = graph.admit(update_single, &row(alloc, line)?)?;
-    let same = is_same_verdict(&given, &verdict(alloc, expected)?);
-    match &given {
-        Verdict::Changes(changes) => Ok(applies(graph, changes)? && same),
-        _ => Ok(same),
+) {
+    let row = row(rt, alloc, line);
+    let given = graph.admit(update_single, &row).expect(rt, "memory");
+    let expected = verdict(rt, alloc, expected);
+    assert!(rt; is_same_verdict(&given, &expected), "{update_single} {line:?}");
+    if let Verdict::Changes(changes) = &given {
+        applies(rt, graph, changes);
     }
 }
 
@@ -51,8 +51,7 @@ const FOLDER_OF_TWO: [(Line, Answer); 3] = [
 fn a_folder_of_two_files_gives_two_labels_and_then_an_edge(rt: HostRuntime) {
     let mut graph = Graph::empty(rt.alloc(), 0);
     for (line, expected) in FOLDER_OF_TWO {
-        let same = answers(rt.alloc(), &mut graph, false, line, expected);
-        assert!(rt; same == Ok(true), "{line:?}");
+        answers(&rt, rt.alloc(), &mut graph, false, line, expected);
     }
     let copy = graph.copy().expect(&rt, "memory");
     assert!(rt; copy.sizes() == (2, 1, 0));
@@ -89,8 +88,7 @@ const SINGLE_VALUES: [(bool, Line, Answer); 5] = [
 fn a_single_value_is_refused_or_takes_the_place_of_another(rt: HostRuntime) {
     let mut graph = Graph::empty(rt.alloc(), 0);
     for (update_single, line, expected) in SINGLE_VALUES {
-        let same = answers(rt.alloc(), &mut graph, update_single, line, expected);
-        assert!(rt; same == Ok(true), "{update_single} {line:?}");
+        answers(&rt, rt.alloc(), &mut graph, update_single, line, expected);
     }
     assert!(rt; graph.sizes() == (1, 0, 1));
 }
@@ -118,8 +116,7 @@ const EDGE_ERRORS: [(Line, Answer); 4] = [
 fn an_edge_is_added_or_refused(rt: HostRuntime) {
     let mut graph = Graph::empty(rt.alloc(), 0);
     for (line, expected) in EDGE_ERRORS {
-        let same = answers(rt.alloc(), &mut graph, false, line, expected);
-        assert!(rt; same == Ok(true), "{line:?}");
+        answers(&rt, rt.alloc(), &mut graph, false, line, expected);
     }
     assert!(rt; graph.sizes() == (1, 1, 0));
 }
