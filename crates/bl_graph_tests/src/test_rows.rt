@@ -6,7 +6,7 @@ use std::alloc::Global;
 use std::process::Abort;
 
 /// A value.
-#[derive(Clone, Copy, Debug)]
+#[derive(Clone, Copy)]
 pub enum Given {
     Truth(bool),
     Byte(i8),
@@ -21,7 +21,7 @@ pub const ANN: Given = Given::Word("Ann");
 pub const BOB: Given = Given::Word("Bob");
 
 /// A key, with a set of values or with a single one.
-#[derive(Clone, Copy, Debug)]
+#[derive(Clone, Copy)]
 pub enum At {
     Set(&'static str, &'static [Given]),
     Single(&'static str, Given),
@@ -29,7 +29,7 @@ pub enum At {
 
 /// A row: a vertex with its id and labels, an edge with its id, `from`, `to` and label, or a code
 /// and its column. The first property stands in column 3 of a vertex and 5 of an edge.
-#[derive(Clone, Copy, Debug)]
+#[derive(Clone, Copy)]
 pub enum Line {
     Vertex(&'static str, &'static [&'static str], &'static [At]),
     Edge(&'static str, &'static str, &'static str, &'static str, &'static [At]),
