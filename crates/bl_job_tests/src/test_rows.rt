@@ -1,12 +1,13 @@
 // Rows, changes and logs as the tables of tests write them.
 use bl_files::{LoadRequest, Log, Mode};
-use bl_outside::{Digest, List, NoMemory, Text};
+use bl_outside::{Digest, List, Text};
 use bl_value::{Change, DigestRow, LogCode, Property, Row, Value};
 use std::alloc::Global;
+use std::process::Abort;
 
 /// A row: a vertex with its id and labels, one with a single `name` in column 2, an edge with its
 /// id, `from`, `to` and label, or a code and its column.
-#[derive(Clone, Copy, Debug)]
+#[derive(Clone, Copy)]
 pub enum Line {
     Vertex(&'static str, &'static [&'static str]),
     Named(&'static str, &'static str),
@@ -15,7 +16,7 @@ pub enum Line {
 }
 
 /// A change: a label of a vertex, an edge with its id, `from`, `to` and label, or a vertex's name.
-#[derive(Clone, Copy, Debug)]
+#[derive(Clone, Copy)]
 pub enum Step {
     Label(&'static str, &'static str),
     Edge(&'static str, &'static str, &'static str, &'static str),
@@ -26,79 +27,88 @@ pub enum Step {
 /// A log: its code, its number and its column.
 pub type Told = (LogCode, u64, u32);
 
+pub fn text<R: Abort>(rt: &R, alloc: Global, word: &str) -> Text {
+    Text::of_str(alloc, word).expect(rt, "memory")
+}
+
 /// A property of one value, in column 2.
-pub fn second_column(
+pub fn second_column<R: Abort>(
+    rt: &R,
     alloc: Global,
     key: &str,
     single: bool,
     value: Value,
-) -> Result<List<Property>, NoMemory> {
+) -> List<Property> {
     let mut values = List::new(alloc);
-    values.push(value)?;
-    let mut properties = List::new(alloc);
-    properties.push(Property {
-        key: Text::of_str(alloc, key)?,
+    values.push(value).expect(rt, "memory");
+    let property = Property {
+        key: text(rt, alloc, key),
         column: 2,
         single,
         values,
-    })?;
-    Ok(properties)
+    };
+    let mut properties = List::new(alloc);
+    properties.push(property).expect(rt, "memory");
+    properties
 }
 
-fn texts(alloc: Global, words: &[&str]) -> Result<List<Text>, NoMemory> {
+fn texts<R: Abort>(rt: &R, alloc: Global, words: &[&str]) -> List<Text> {
     let mut texts = List::new(alloc);
     for word in words {
-        texts.push(Text::of_str(alloc, word)?)?;
+        texts.push(text(rt, alloc, word)).expect(rt, "memory");
     }
-    Ok(texts)
+    texts
 }
 
-fn row(alloc: Global, line: Line) -> Result<Row, NoMemory> {
-    Ok(match line {
+fn name<R: Abort>(rt: &R, alloc: Global, word: &str) -> Value {
+    Value::Str(text(rt, alloc, word))
+}
+
+fn row<R: Abort>(rt: &R, alloc: Global, line: Line) -> Row {
+    match line {
         Line::Vertex(id, labels) => Row::Vertex {
-            id: Text::of_str(alloc, id)?,
-            labels: texts(alloc, labels)?,
+            id: text(rt, alloc, id),
+            labels: texts(rt, alloc, labels),
             properties: List::new(alloc),
         },
-        Line::Named(id, name) => Row::Vertex {
-            id: Text::of_str(alloc, id)?,
+        Line::Named(id, word) => Row::Vertex {
+            id: text(rt, alloc, id),
             labels: List::new(alloc),
-            properties: second_column(alloc, "name", true, Value::Str(Text::of_str(alloc, name)?))?,
+            properties: second_column(rt, alloc, "name", true, name(rt, alloc, word)),
         },
         Line::Edge(id, from, to, label) => Row::Edge {
-            id: Text::of_str(alloc, id)?,
-            label: Text::of_str(alloc, label)?,
-            from: Text::of_str(alloc, from)?,
-            to: Text::of_str(alloc, to)?,
+            id: text(rt, alloc, id),
+            label: text(rt, alloc, label),
+            from: text(rt, alloc, from),
+            to: text(rt, alloc, to),
             properties: List::new(alloc),
         },
         Line::Bad(code, column) => Row::Bad { code, column },
-    })
+    }
 }
 
 /// One row more. A batch doesn't look at its digest.
-pub fn push_row(rows: &mut List<DigestRow>, row: Row) -> Result<(), NoMemory> {
-    rows.push(DigestRow {
-        row,
-        digest: Digest { bytes: [0; 32] },
-    })
+pub fn push_row<R: Abort>(rt: &R, rows: &mut List<DigestRow>, row: Row) {
+    let digest = Digest { bytes: [0; 32] };
+    rows.push(DigestRow { row, digest }).expect(rt, "memory");
 }
 
-pub fn rows(alloc: Global, lines: &[Line]) -> Result<List<DigestRow>, NoMemory> {
+pub fn rows<R: Abort>(rt: &R, alloc: Global, lines: &[Line]) -> List<DigestRow> {
     let mut rows = List::new(alloc);
     for line in lines {
-        push_row(&mut rows, row(alloc, *line)?)?;
+        push_row(rt, &mut rows, row(rt, alloc, *line));
     }
-    Ok(rows)
+    rows
 }
 
-pub fn request(
+pub fn request<R: Abort>(
+    rt: &R,
     alloc: Global,
     fail_on_error: bool,
     update_single: bool,
-) -> Result<LoadRequest, NoMemory> {
-    Ok(LoadRequest {
-        source: Text::of_str(alloc, "s3://b/f")?,
+) -> LoadRequest {
+    LoadRequest {
+        source: text(rt, alloc, "s3://b/f"),
         format: 0,
         mode: Mode::New,
         fail_on_error,
@@ -106,7 +116,7 @@ pub fn request(
         parallelism: 2,
         queue: false,
         dependencies: List::new(alloc),
-    })
+    }
 }
 
 fn is_text(text: &Text, word: &str) -> bool {

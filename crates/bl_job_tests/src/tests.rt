@@ -1,16 +1,17 @@
 // Batches of rows, and what they come to.
 use crate::test_rows::{
-    Line, Step, Told, are_steps, are_told, push_row, request, rows, second_column, told,
+    Line, Step, Told, are_steps, are_told, push_row, request, rows, second_column, text, told,
 };
 use bl_graph::Graph;
 use bl_job::{BatchResult, batch};
-use bl_outside::{List, NoMemory, Text};
+use bl_outside::List;
 use bl_value::{DigestRow, LogCode, Row, Value};
 use std::alloc::Global;
+use std::process::Abort;
 
 // A batch, what it is to come to, and the sizes of the graph behind it. The lines before it are
 // taken first, as a batch of their own.
-#[derive(Clone, Copy, Debug)]
+#[derive(Clone, Copy)]
 struct Case {
     fail_on_error: bool,
     update_single: bool,
@@ -125,47 +126,61 @@ const STOPPED_LATER: Case = Case {
     ..NOTHING
 };
 
-// The batch of the rows. None where memory ran out.
-fn taken(
+// The batch of the rows, of which there are fewer than 2^32.
+fn taken<R: Abort>(
+    rt: &R,
     alloc: Global,
     graph: &mut Graph,
     fail_on_error: bool,
     update_single: bool,
     rows: &List<DigestRow>,
-) -> Option<BatchResult> {
-    let _count = u32::try_from(rows.len()).ok()?;
-    let request = request(alloc, fail_on_error, update_single).ok()?;
-    batch(alloc, graph, &request, rows).ok()
+) -> BatchResult {
+    let _count = u32::try_from(rows.len()).expect(rt, "some rows");
+    let request = request(rt, alloc, fail_on_error, update_single);
+    batch(alloc, graph, &request, rows).expect(rt, "memory")
 }
 
-fn is_expected(made: &BatchResult, graph: &Graph, case: &Case) -> bool {
-    made.rows == case.rows
-        && made.duplicates == case.duplicates
-        && are_told(&made.logs, case.logs)
-        && are_steps(&made.changes, case.steps)
-        && made.stop.as_ref().map(told) == case.stop
-        && graph.sizes() == case.sizes
+fn taken_of<R: Abort>(
+    rt: &R,
+    alloc: Global,
+    graph: &mut Graph,
+    fail_on_error: bool,
+    update_single: bool,
+    lines: &[Line],
+) -> BatchResult {
+    let rows = rows(rt, alloc, lines);
+    taken(rt, alloc, graph, fail_on_error, update_single, &rows)
 }
 
-// Whether the batch comes to what is expected of it. None where memory ran out.
-fn comes_out(alloc: Global, case: &Case) -> Option<bool> {
-    let mut graph = Graph::empty(alloc, 0);
-    let before = rows(alloc, case.before).ok()?;
-    taken(alloc, &mut graph, false, false, &before)?;
-    let lines = rows(alloc, case.lines).ok()?;
-    let made = taken(
-        alloc,
-        &mut graph,
-        case.fail_on_error,
-        case.update_single,
-        &lines,
-    )?;
-    Some(is_expected(&made, &graph, case))
+fn is_counted(made: &BatchResult, case: &Case) -> bool {
+    made.rows == case.rows && made.duplicates == case.duplicates
+}
+
+fn is_written(made: &BatchResult, case: &Case) -> bool {
+    are_told(&made.logs, case.logs) && are_steps(&made.changes, case.steps)
+}
+
+fn is_stopped(made: &BatchResult, case: &Case) -> bool {
+    match (&made.stop, case.stop) {
+        (Some(log), Some(expected)) => told(log) == expected,
+        (None, None) => true,
+        _ => false,
+    }
+}
+
+// Whether the batch comes to what is expected of it.
+fn comes_out<R: Abort>(rt: &R, alloc: Global, graph: &mut Graph, case: &Case) -> bool {
+    taken_of(rt, alloc, graph, false, false, case.before);
+    let (fail, update) = (case.fail_on_error, case.update_single);
+    let made = taken_of(rt, alloc, graph, fail, update, case.lines);
+    let is_made = is_counted(&made, case) && is_written(&made, case) && is_stopped(&made, case);
+    is_made && graph.sizes() == case.sizes
 }
 
 #[test]
 fn batches_come_to_what_their_rows_say(rt: HostRuntime) {
-    for case in [
+    let alloc = rt.alloc();
+    let cases = [
         NOTHING,
         FOLDER_OF_TWO,
         OLD_NAME_KEPT,
@@ -173,42 +188,40 @@ fn batches_come_to_what_their_rows_say(rt: HostRuntime) {
         EDGE_ERRORS,
         STOPPED_AT_ONCE,
         STOPPED_LATER,
-    ] {
-        assert!(rt; comes_out(rt.alloc(), &case) == Some(true), "{case:?}");
+    ];
+    for (number, case) in cases.iter().enumerate() {
+        let comes_out = comes_out(&rt, alloc, &mut Graph::empty(alloc, 0), case);
+        assert!(rt; comes_out, "case {number}");
     }
 }
 
 // A vertex of this number with an age.
-fn aged(alloc: Global, number: i32, age: i32) -> Result<Row, NoMemory> {
-    Ok(Row::Vertex {
-        id: Text::of_str(alloc, format!(in alloc; "v{number}")?.as_str())?,
+fn aged<R: Abort>(rt: &R, alloc: Global, number: i32, age: i32) -> Row {
+    let id = format!(in alloc; "v{number}").expect(rt, "memory");
+    Row::Vertex {
+        id: text(rt, alloc, id.as_str()),
         labels: List::new(alloc),
-        properties: second_column(alloc, "age", false, Value::Int(age))?,
-    })
+        properties: second_column(rt, alloc, "age", false, Value::Int(age)),
+    }
 }
 
 // A thousand rows, a bad one, and one more.
-fn rows_with_a_bad_one(alloc: Global) -> Result<List<DigestRow>, NoMemory> {
+fn rows_with_a_bad_one<R: Abort>(rt: &R, alloc: Global) -> List<DigestRow> {
     let mut rows = List::new(alloc);
     for number in 1..=1000 {
-        push_row(&mut rows, aged(alloc, number, number)?)?;
+        push_row(rt, &mut rows, aged(rt, alloc, number, number));
     }
-    push_row(
-        &mut rows,
-        Row::Bad {
-            code: LogCode::NotOfType,
-            column: 2,
-        },
-    )?;
-    push_row(&mut rows, aged(alloc, 1002, 5)?)?;
-    Ok(rows)
+    let (code, column) = (LogCode::NotOfType, 2);
+    push_row(rt, &mut rows, Row::Bad { code, column });
+    push_row(rt, &mut rows, aged(rt, alloc, 1002, 5));
+    rows
 }
 
 #[test]
 fn a_load_that_fails_on_an_error_stops_before_row_1001(rt: HostRuntime) {
-    let rows = rows_with_a_bad_one(rt.alloc()).expect(&rt, "memory");
+    let rows = rows_with_a_bad_one(&rt, rt.alloc());
     let mut graph = Graph::empty(rt.alloc(), 0);
-    let made = taken(rt.alloc(), &mut graph, true, false, &rows).expect(&rt, "memory");
+    let made = taken(&rt, rt.alloc(), &mut graph, true, false, &rows);
     assert_eq!(rt; (made.rows, made.duplicates), (1000, 0));
     assert_eq!(rt; made.changes.len(), 2000);
     assert!(rt; are_told(&made.logs, &[]));
@@ -219,9 +232,9 @@ fn a_load_that_fails_on_an_error_stops_before_row_1001(rt: HostRuntime) {
 
 #[test]
 fn another_load_logs_row_1001_and_goes_on(rt: HostRuntime) {
-    let rows = rows_with_a_bad_one(rt.alloc()).expect(&rt, "memory");
+    let rows = rows_with_a_bad_one(&rt, rt.alloc());
     let mut graph = Graph::empty(rt.alloc(), 0);
-    let made = taken(rt.alloc(), &mut graph, false, false, &rows).expect(&rt, "memory");
+    let made = taken(&rt, rt.alloc(), &mut graph, false, false, &rows);
     assert_eq!(rt; (made.rows, made.duplicates), (1002, 0));
     assert_eq!(rt; made.changes.len(), 2002);
     assert!(rt; are_told(&made.logs, &[(LogCode::NotOfType, 1001, 2)]));
