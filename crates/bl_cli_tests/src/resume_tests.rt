@@ -1,7 +1,7 @@
 // Loads that go on with others, over files that changed between them.
-use crate::test_runs::{NOTHING, Run, count, folder_of, go_on, put, run_over, store};
+use crate::test_runs::{FileTable, NO_FILES, Run, goes_on, new_machine, put, text};
 use bl_cli::Status;
-use bl_outside::{MemoryFolder, NoMemory, Text};
+use bl_outside::{MemoryFolder, Text};
 use std::alloc::Global;
 use std::process::Abort;
 use std::thread::Threads;
@@ -121,74 +121,64 @@ const GONE: &[Run] = &[
 ];
 
 // How many runs of a table came to what they should, up to the first that didn't.
-fn runs_right<R: Threads + Sync + Abort>(
-    rt: &R,
-    alloc: Global,
-    runs: &[Run],
-) -> Result<u32, NoMemory> {
-    let mut disks = store(alloc, b"", 0)?;
+fn runs_right<R: Threads + Sync + Abort>(rt: &R, alloc: Global, runs: &[Run]) -> u32 {
+    let mut machine = new_machine(rt, alloc, NO_FILES);
     let mut right: u32 = 0;
     for run in runs {
         let number = right.saturating_add(1);
-        let (is, after) = go_on(rt, alloc, number, run, disks)?;
-        if !is {
-            return Ok(right);
+        if !goes_on(rt, alloc, &mut machine, number, run) {
+            break;
         }
-        disks = after;
         right = number;
     }
-    Ok(right)
+    right
 }
 
 #[test]
-fn loads_go_on_over_files_that_changed(rt: HostRuntime) -> Result<(), NoMemory> {
+fn loads_go_on_over_files_that_changed(rt: HostRuntime) {
     let table: [&[Run]; 5] = [ADDED, HEADER, EARLIER, BETWEEN, GONE];
     for runs in &table {
-        let right = runs_right(&rt, rt.alloc(), runs)?;
+        let right = runs_right(&rt, rt.alloc(), runs);
         assert!(rt; right as usize == runs.len(), "run {right}");
     }
-    Ok(())
 }
 
 // ---- one record in the middle of many
 
 // Records `v1,1` to `v1002,1002`, of which the 501st has this cell.
-fn thousand_and_two(alloc: Global, cell: &str) -> Result<Text, NoMemory> {
-    let mut text = Text::copy_of(alloc, b"~id,age:Int\n")?;
+fn thousand_and_two<R: Abort>(rt: &R, alloc: Global, cell: &str) -> Text {
+    let mut all = text(rt, alloc, b"~id,age:Int\n");
     for number in 1u32..=1002 {
         let row = if number == 501 {
-            format!(in alloc; "v501,{cell}\n")?
+            format!(in alloc; "v501,{cell}\n")
         } else {
-            format!(in alloc; "v{number},{number}\n")?
+            format!(in alloc; "v{number},{number}\n")
         };
-        text.extend(row.as_bytes())?;
+        let row = row.expect(rt, "memory");
+        all.extend(row.as_bytes()).expect(rt, "memory");
     }
-    Ok(text)
+    all
 }
 
-fn folder_with(alloc: Global, cell: &str) -> Result<MemoryFolder, NoMemory> {
-    let mut folder = folder_of(alloc, &[B], 0)?;
-    let text = thousand_and_two(alloc, cell)?;
-    put(alloc, &mut folder, "f/a.csv", text.as_slice())?;
-    Ok(folder)
+fn put_all<R: Abort>(rt: &R, alloc: Global, folder: &mut MemoryFolder, cell: &str) {
+    let file = thousand_and_two(rt, alloc, cell);
+    put(rt, alloc, folder, "f/a.csv", file.as_slice());
 }
+
+const ONE_MORE: FileTable = &[B];
 
 // Commits of 1,000, 1,004 and 1 operations.
 #[test]
-fn a_record_in_the_middle_is_mended(rt: HostRuntime) -> Result<(), NoMemory> {
+fn a_record_in_the_middle_is_mended(rt: HostRuntime) {
     let alloc = rt.alloc();
-    let mut folder = folder_with(alloc, "x")?;
-    let empty = store(alloc, b"", 0)?;
-    let words = "load s3://b/f --changes";
-    let first = run_over(&rt, alloc, words, &mut folder, empty, NOTHING);
-    assert!(rt; count(first.out.as_slice(), b"\"commitNum\":1,") == 1000);
-    assert!(rt; count(first.out.as_slice(), b" LOAD_FAILED 501 0 0 1 0\n") == 1);
-    let mut folder = folder_with(alloc, "501")?;
-    let words = "load s3://b/f --mode RESUME --changes";
-    let second = run_over(&rt, alloc, words, &mut folder, first.disks, NOTHING);
-    assert!(rt; count(second.out.as_slice(), b"\"commitNum\":2,") == 1004);
-    assert!(rt; count(second.out.as_slice(), b"\"commitNum\":3,") == 1);
-    assert!(rt; count(second.out.as_slice(), b" LOAD_COMPLETED 1003 0 0 0 0\n") == 1);
-    assert!(rt; second.status == Status::Ok);
-    Ok(())
+    let mut machine = new_machine(&rt, alloc, ONE_MORE);
+    put_all(&rt, alloc, &mut machine.folder, "x");
+    machine.run(&rt, alloc, "load s3://b/f --changes");
+    assert!(rt; machine.count(b"\"commitNum\":1,") == 1000);
+    assert!(rt; machine.ends_with(&rt, alloc, 1, "LOAD_FAILED 501 0 0 1 0"));
+    put_all(&rt, alloc, &mut machine.folder, "501");
+    let status = machine.run(&rt, alloc, "load s3://b/f --mode RESUME --changes");
+    assert!(rt; status == Status::Ok && machine.count(b"\"commitNum\":2,") == 1004);
+    assert!(rt; machine.count(b"\"commitNum\":3,") == 1);
+    assert!(rt; machine.ends_with(&rt, alloc, 2, "LOAD_COMPLETED 1003 0 0 0 0"));
 }

@@ -1,11 +1,12 @@
 // What runs come to.
 use crate::test_runs::{
-    FOLDER_OF_TWO, FileTable, NOTHING, PEOPLE, Run, count, folder_of, go_on, line, put, run_files,
-    run_over, store,
+    FOLDER_OF_TWO, FileTable, NO_FILES, PEOPLE, Run, goes_on, new_machine, put, text,
 };
 use bl_cli::Status;
-use bl_outside::{MemoryFolder, NoMemory, Text};
+use bl_outside::{MemoryFolder, Text};
 use std::alloc::Global;
+use std::process::Abort;
+use std::thread::Threads;
 
 const BYTE_RANGE: FileTable = &[("f", b"~id,age:Byte\na,127\nb,128\nc,-128\n")];
 
@@ -111,19 +112,21 @@ const LOADS: &[Run] = &[
     ),
 ];
 
-#[test]
-fn each_load_ends_as_its_files_say(rt: HostRuntime) -> Result<(), NoMemory> {
-    let alloc = rt.alloc();
-    for run in LOADS {
-        let (is, _) = go_on(&rt, alloc, 1, run, store(alloc, b"", 0)?)?;
-        assert!(rt; is, "{}", run.1);
-    }
-    Ok(())
+fn ends_as_it_should<R: Threads + Sync + Abort>(rt: &R, alloc: Global, run: &Run) -> bool {
+    goes_on(rt, alloc, &mut new_machine(rt, alloc, NO_FILES), 1, run)
 }
 
 #[test]
-fn other_words_are_refused(rt: HostRuntime) -> Result<(), NoMemory> {
+fn each_load_ends_as_its_files_say(rt: HostRuntime) {
+    for run in LOADS {
+        assert!(rt; ends_as_it_should(&rt, rt.alloc(), run), "{}", run.1);
+    }
+}
+
+#[test]
+fn other_words_are_refused(rt: HostRuntime) {
     let alloc = rt.alloc();
+    let mut machine = new_machine(&rt, alloc, FOLDER_OF_TWO);
     for words in [
         "load",
         "help me",
@@ -153,12 +156,12 @@ fn other_words_are_refused(rt: HostRuntime) -> Result<(), NoMemory> {
         "load s3://b/f s3://b/f",
         "--changes load s3://b/f",
     ] {
-        let outcome = run_files(&rt, alloc, words, FOLDER_OF_TWO, NOTHING);
-        assert!(rt; outcome.status == Status::Usage, "status of {words}");
-        assert!(rt; outcome.out.is_empty(), "output of {words}");
-        assert!(rt; outcome.err.as_slice() == USAGE, "errors of {words}");
+        let status = machine.run(&rt, alloc, words);
+        assert!(rt;
+            status == Status::Usage && machine.wrote(b"", USAGE),
+            "{words}"
+        );
     }
-    Ok(())
 }
 
 // ---- what is printed
@@ -173,122 +176,80 @@ const NEW_SINGLE: &[u8] =
     b"\"value\":{\"dataType\":\"String\",\"value\":\"Ann\"}},\"eventId\":{\"commitNum\":1,\"opNum\":3},\"op\":\"REMOVE\"}\n";
 
 #[test]
-fn the_changes_of_a_load_are_printed_before_its_line(rt: HostRuntime) -> Result<(), NoMemory> {
+fn the_changes_of_a_load_are_printed_before_its_line(rt: HostRuntime) {
     let alloc = rt.alloc();
-    let first = run_files(
-        &rt,
-        alloc,
-        "load s3://b/people.csv --changes",
-        PEOPLE,
-        NOTHING,
-    );
-    assert!(rt; first.status == Status::Ok && first.out.as_slice() == FIRST_LOAD);
-    let two = run_files(
-        &rt,
-        alloc,
-        "load s3://b/f --changes",
-        FOLDER_OF_TWO,
-        NOTHING,
-    );
-    assert!(rt; count(two.out.as_slice(), b"\n") == 4);
-    assert!(rt; two.out.as_slice().ends_with(EDGE_LINE));
-    let words = "load s3://b/f --update-single --changes";
-    let single = run_files(&rt, alloc, words, SINGLE_VALUE, NOTHING);
-    assert!(rt; count(single.out.as_slice(), NEW_SINGLE) == 1);
-    Ok(())
+    let mut machine = new_machine(&rt, alloc, PEOPLE);
+    let status = machine.run(&rt, alloc, "load s3://b/people.csv --changes");
+    assert!(rt; status == Status::Ok && machine.wrote(FIRST_LOAD, b""));
+}
+
+#[test]
+fn an_edge_is_printed_behind_its_ends(rt: HostRuntime) {
+    let alloc = rt.alloc();
+    let mut machine = new_machine(&rt, alloc, FOLDER_OF_TWO);
+    machine.run(&rt, alloc, "load s3://b/f --changes");
+    assert!(rt; machine.count(b"\n") == 4 && machine.out.as_slice().ends_with(EDGE_LINE));
+}
+
+#[test]
+fn a_value_that_is_replaced_is_printed_as_removed(rt: HostRuntime) {
+    let alloc = rt.alloc();
+    let mut machine = new_machine(&rt, alloc, SINGLE_VALUE);
+    machine.run(&rt, alloc, "load s3://b/f --update-single --changes");
+    assert!(rt; machine.count(NEW_SINGLE) == 1);
 }
 
 // Another load's changes are not printed, and a load that goes on takes what is new.
 #[test]
-fn the_same_load_twice_adds_nothing(rt: HostRuntime) -> Result<(), NoMemory> {
+fn the_same_load_twice_adds_nothing(rt: HostRuntime) {
     let alloc = rt.alloc();
-    let mut folder = folder_of(alloc, FOLDER_OF_TWO, 0)?;
+    let mut machine = new_machine(&rt, alloc, FOLDER_OF_TWO);
     let words = "load s3://b/f --changes";
-    let first = run_over(
-        &rt,
-        alloc,
-        words,
-        &mut folder,
-        store(alloc, b"", 0)?,
-        NOTHING,
-    );
-    assert!(rt; first.status == Status::Ok);
-    let second = run_over(&rt, alloc, words, &mut folder, first.disks, NOTHING);
-    let expected = line(alloc, 2, "LOAD_COMPLETED 3 0 0 0 0")?;
-    assert!(rt; second.status == Status::Ok && second.out.as_slice() == expected.as_slice());
+    assert!(rt; machine.run(&rt, alloc, words) == Status::Ok);
+    assert!(rt; machine.run(&rt, alloc, words) == Status::Ok);
+    assert!(rt; machine.wrote_line(&rt, alloc, 2, "LOAD_COMPLETED 3 0 0 0 0"));
     let words = "load s3://b/f --mode NEW --changes";
-    let third = run_over(&rt, alloc, words, &mut folder, second.disks, NOTHING);
-    let expected = line(alloc, 3, "LOAD_COMPLETED 3 3 0 0 0")?;
-    assert!(rt; third.status == Status::Ok && third.out.as_slice() == expected.as_slice());
-    put(alloc, &mut folder, "g.csv", b"~id\nv3\n")?;
+    assert!(rt; machine.run(&rt, alloc, words) == Status::Ok);
+    assert!(rt; machine.wrote_line(&rt, alloc, 3, "LOAD_COMPLETED 3 3 0 0 0"));
+    put(&rt, alloc, &mut machine.folder, "g.csv", b"~id\nv3\n");
     let words = "load s3://b/g.csv --changes";
-    let other = run_over(&rt, alloc, words, &mut folder, third.disks, NOTHING);
-    assert!(rt; other.status == Status::Ok && count(other.out.as_slice(), b"\n") == 2);
-    assert!(rt; count(other.out.as_slice(), b"\"commitNum\":3,") == 1);
-    Ok(())
+    assert!(rt; machine.run(&rt, alloc, words) == Status::Ok && machine.count(b"\n") == 2);
+    assert!(rt; machine.count(b"\"commitNum\":3,") == 1);
 }
 
 // ---- loads that stop and go on
 
 // Records `v1,1` to `v1000,1000`, then `v1001` with this cell, then `v1002,5`.
-fn thousand(alloc: Global, cell: &str) -> Result<Text, NoMemory> {
-    let mut text = Text::copy_of(alloc, b"~id,age:Int\n")?;
+fn thousand<R: Abort>(rt: &R, alloc: Global, cell: &str) -> Text {
+    let mut all = text(rt, alloc, b"~id,age:Int\n");
     for number in 1u32..=1000 {
-        let row = format!(in alloc; "v{number},{number}\n")?;
-        text.extend(row.as_bytes())?;
+        let row = format!(in alloc; "v{number},{number}\n").expect(rt, "memory");
+        all.extend(row.as_bytes()).expect(rt, "memory");
     }
-    let rest = format!(in alloc; "v1001,{cell}\nv1002,5\n")?;
-    text.extend(rest.as_bytes())?;
-    Ok(text)
+    let rest = format!(in alloc; "v1001,{cell}\nv1002,5\n").expect(rt, "memory");
+    all.extend(rest.as_bytes()).expect(rt, "memory");
+    all
 }
 
-fn stopped_folder(alloc: Global, cell: &str) -> Result<MemoryFolder, NoMemory> {
-    let mut folder = folder_of(alloc, &[("f/b.csv", b"~id\nw1\n")], 0)?;
-    put(
-        alloc,
-        &mut folder,
-        "f/a.csv",
-        thousand(alloc, cell)?.as_slice(),
-    )?;
-    Ok(folder)
+fn put_thousand<R: Abort>(rt: &R, alloc: Global, folder: &mut MemoryFolder, cell: &str) {
+    let file = thousand(rt, alloc, cell);
+    put(rt, alloc, folder, "f/a.csv", file.as_slice());
 }
+
+const ONE_MORE: FileTable = &[("f/b.csv", b"~id\nw1\n")];
 
 #[test]
-fn a_stopped_load_goes_on_once_its_record_is_mended(rt: HostRuntime) -> Result<(), NoMemory> {
+fn a_stopped_load_goes_on_once_its_record_is_mended(rt: HostRuntime) {
     let alloc = rt.alloc();
-    let mut folder = stopped_folder(alloc, "x")?;
-    let words = "load s3://b/f --changes";
-    let first = run_over(
-        &rt,
-        alloc,
-        words,
-        &mut folder,
-        store(alloc, b"", 0)?,
-        NOTHING,
-    );
-    assert!(rt; first.status == Status::JobNotCompleted);
-    let expected = line(alloc, 1, "LOAD_FAILED 1001 0 0 1 0")?;
-    assert!(rt; first.out.as_slice().ends_with(expected.as_slice()));
-    let lines = first
-        .out
-        .as_slice()
-        .iter()
-        .filter(|byte| **byte == b'\n')
-        .count();
-    assert!(rt; lines == 2001);
-    put(
-        alloc,
-        &mut folder,
-        "f/a.csv",
-        thousand(alloc, "7")?.as_slice(),
-    )?;
-    let words = "load s3://b/f --mode RESUME --changes";
-    let second = run_over(&rt, alloc, words, &mut folder, first.disks, NOTHING);
-    assert!(rt; second.status == Status::Ok);
-    let expected = line(alloc, 2, "LOAD_COMPLETED 1003 0 0 0 0")?;
-    assert!(rt; second.out.as_slice().ends_with(expected.as_slice()));
-    assert!(rt; count(second.out.as_slice(), b"\"commitNum\":2,") == 4);
-    assert!(rt; count(second.out.as_slice(), b"\"commitNum\":3,") == 1);
-    assert!(rt; count(second.out.as_slice(), b"\n") == 6);
-    Ok(())
+    let mut machine = new_machine(&rt, alloc, ONE_MORE);
+    put_thousand(&rt, alloc, &mut machine.folder, "x");
+    let status = machine.run(&rt, alloc, "load s3://b/f --changes");
+    assert!(rt; status == Status::JobNotCompleted && machine.count(b"\n") == 2001);
+    assert!(rt; machine.ends_with(&rt, alloc, 1, "LOAD_FAILED 1001 0 0 1 0"));
+    put_thousand(&rt, alloc, &mut machine.folder, "7");
+    let status = machine.run(&rt, alloc, "load s3://b/f --mode RESUME --changes");
+    assert!(rt; status == Status::Ok && machine.count(b"\n") == 6);
+    assert!(rt; machine.ends_with(&rt, alloc, 2, "LOAD_COMPLETED 1003 0 0 0 0"));
+    assert!(rt; machine.count(b"\"commitNum\":2,") == 4);
+    assert!(rt; machine.count(b"\"commitNum\":3,") == 1);
 }

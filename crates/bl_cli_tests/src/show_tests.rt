@@ -1,10 +1,10 @@
 // What is shown of a store, and the help.
 use crate::test_runs::{
-    FOLDER_OF_TWO, Failing, FileTable, NOTHING, Outcome, PEOPLE, folder_of, run_files, run_over,
+    FOLDER_OF_TWO, Failing, FileTable, Machine, NO_FILES, NOTHING, PEOPLE, faults_at, new_machine,
     store,
 };
 use bl_cli::Status;
-use bl_outside::{Disk, Disks, MemoryDisk, NoMemory, Text};
+use bl_outside::Faults;
 use std::alloc::Global;
 use std::process::Abort;
 use std::thread::Threads;
@@ -20,38 +20,23 @@ const LABEL_2: &str =
 const EDGE: &str =
     "{\"commitTimestamp\":0,\"data\":{\"from\":\"v1\",\"id\":\"e1\",\"key\":\"label\",\"to\":\"v2\",\"type\":\"e\",\"value\":{\"dataType\":\"String\",\"value\":\"knows\"}},\"eventId\":{\"commitNum\":2,\"opNum\":1},\"isLastOp\":true,\"op\":\"ADD\"}";
 
-// A run over no files and this store.
-fn show<R: Threads + Sync + Abort>(
-    rt: &R,
-    alloc: Global,
-    words: &str,
-    disks: Disks<MemoryDisk>,
-    fails: Failing,
-) -> Outcome {
-    let mut folder = folder_of(alloc, &[], 0).expect(rt, "memory");
-    run_over(rt, alloc, words, &mut folder, disks, fails)
-}
-
-// Whether a run came to this, and the store that it left.
+// Whether a run comes to this.
 fn comes_to<R: Threads + Sync + Abort>(
     rt: &R,
     alloc: Global,
+    machine: &mut Machine,
     words: &str,
-    disks: Disks<MemoryDisk>,
     status: Status,
     out: &str,
     err: &str,
-) -> Result<(bool, Disks<MemoryDisk>), NoMemory> {
-    let outcome = show(rt, alloc, words, disks, NOTHING);
-    let is = outcome.status == status
-        && outcome.out.as_slice() == out.as_bytes()
-        && outcome.err.as_slice() == err.as_bytes();
-    Ok((is, outcome.disks))
+) -> bool {
+    machine.run(rt, alloc, words) == status && machine.wrote(out.as_bytes(), err.as_bytes())
 }
 
 #[test]
-fn an_empty_store_has_no_load_and_no_record(rt: HostRuntime) -> Result<(), NoMemory> {
+fn an_empty_store_has_no_load_and_no_record(rt: HostRuntime) {
     let alloc = rt.alloc();
+    let mut machine = new_machine(&rt, alloc, NO_FILES);
     for (words, status, out, err) in [
         ("status x", Status::UnknownLoad, "", "bl: unknown load\n"),
         (
@@ -79,34 +64,37 @@ fn an_empty_store_has_no_load_and_no_record(rt: HostRuntime) -> Result<(), NoMem
             "",
         ),
     ] {
-        let disks = store(alloc, b"", 0)?;
-        let (is, _) = comes_to(&rt, alloc, words, disks, status, out, err)?;
+        let is = comes_to(&rt, alloc, &mut machine, words, status, out, err);
         assert!(rt; is, "{words}");
     }
-    Ok(())
+}
+
+fn page_head<R: Abort>(rt: &R, alloc: Global, commit: u32, op: u32) -> String {
+    let head = format!(in alloc;
+        "{{\"format\":\"PG_JSON\",\"lastEventId\":{{\"commitNum\":{commit},\"opNum\":{op}}},\"lastTrxTimestamp\":0,\"records\":["
+    );
+    head.expect(rt, "memory")
 }
 
 // A page with these records, of which the last has this place.
-fn page(alloc: Global, commit: u32, op: u32, records: &[&str]) -> Result<String, NoMemory> {
-    let mut text = format!(in alloc;
-        "{{\"format\":\"PG_JSON\",\"lastEventId\":{{\"commitNum\":{commit},\"opNum\":{op}}},\"lastTrxTimestamp\":0,\"records\":["
-    )?;
+fn page<R: Abort>(rt: &R, alloc: Global, commit: u32, op: u32, records: &[&str]) -> String {
+    let mut text = page_head(rt, alloc, commit, op);
     for (i, record) in records.iter().enumerate() {
-        if i > 0 {
-            text.push(',')?;
-        }
-        text.push_str(record)?;
+        let comma = if i > 0 { "," } else { "" };
+        text.push_str(comma).expect(rt, "memory");
+        text.push_str(record).expect(rt, "memory");
     }
     let count = records.len();
-    let end = format!(in alloc; "],\"totalRecords\":{count}}}\n")?;
-    text.push_str(end.as_str())?;
-    Ok(text)
+    let end = format!(in alloc; "],\"totalRecords\":{count}}}\n").expect(rt, "memory");
+    text.push_str(end.as_str()).expect(rt, "memory");
+    text
 }
 
 #[test]
-fn a_page_has_the_records_that_are_asked_for(rt: HostRuntime) -> Result<(), NoMemory> {
+fn a_page_has_the_records_that_are_asked_for(rt: HostRuntime) {
     let alloc = rt.alloc();
-    let mut disks = run_files(&rt, alloc, "load s3://b/f", FOLDER_OF_TWO, NOTHING).disks;
+    let mut machine = new_machine(&rt, alloc, FOLDER_OF_TWO);
+    machine.run(&rt, alloc, "load s3://b/f");
     let table: [(&str, u32, u32, &[&str]); 6] = [
         ("stream --type LATEST", 2, 1, &[EDGE]),
         (
@@ -126,16 +114,31 @@ fn a_page_has_the_records_that_are_asked_for(rt: HostRuntime) -> Result<(), NoMe
         ),
     ];
     for (words, commit, op, records) in &table {
-        let out = page(alloc, *commit, *op, records)?;
-        let (is, left) = comes_to(&rt, alloc, words, disks, Status::Ok, out.as_str(), "")?;
+        let out = page(&rt, alloc, *commit, *op, records);
+        let is = comes_to(
+            &rt,
+            alloc,
+            &mut machine,
+            words,
+            Status::Ok,
+            out.as_str(),
+            "",
+        );
         assert!(rt; is, "{words}");
-        disks = left;
     }
     let words = "stream --type AFTER_SEQUENCE_NUMBER --commit 2";
     let status = Status::NoRecords;
-    let (is, _) = comes_to(&rt, alloc, words, disks, status, "", "bl: no records\n")?;
-    assert!(rt; is);
-    Ok(())
+    assert!(rt;
+        comes_to(
+            &rt,
+            alloc,
+            &mut machine,
+            words,
+            status,
+            "",
+            "bl: no records\n"
+        )
+    );
 }
 
 const MISTYPED: FileTable = &[("f", b"~id,age:Int\na,1\nb,x\n")];
@@ -149,68 +152,94 @@ const FAILED: &str =
 const IDS: &str =
     "{\"payload\":{\"loadIds\":[\"00000000-0000-4000-8000-000000000002\",\"00000000-0000-4000-8000-000000000001\"]},\"status\":\"200 OK\"}\n";
 
-#[test]
-fn the_loads_of_a_store_are_shown(rt: HostRuntime) -> Result<(), NoMemory> {
-    let alloc = rt.alloc();
-    let load = "load s3://b/people.csv";
-    let mut folder = folder_of(alloc, PEOPLE, 0)?;
-    let disks = store(alloc, b"", 0)?;
-    let first = run_over(&rt, alloc, load, &mut folder, disks, NOTHING);
-    let words = format!(in alloc; "status {ID}")?;
-    let status = Status::Ok;
-    let (is, disks) = comes_to(&rt, alloc, words.as_str(), first.disks, status, LOADED, "")?;
-    assert!(rt; is, "one load");
-    let second = run_over(&rt, alloc, load, &mut folder, disks, NOTHING);
-    let (is, _) = comes_to(&rt, alloc, "status", second.disks, status, IDS, "")?;
-    assert!(rt; is, "two loads");
-    let failed = run_files(&rt, alloc, "load s3://b/f", MISTYPED, NOTHING);
-    let (is, _) = comes_to(&rt, alloc, words.as_str(), failed.disks, status, FAILED, "")?;
-    assert!(rt; is, "a load that failed");
-    Ok(())
+// Whether the status of the first load is this.
+fn has_status<R: Threads + Sync + Abort>(
+    rt: &R,
+    alloc: Global,
+    machine: &mut Machine,
+    out: &str,
+) -> bool {
+    let words = format!(in alloc; "status {ID}").expect(rt, "memory");
+    comes_to(rt, alloc, machine, words.as_str(), Status::Ok, out, "")
 }
 
-fn journal_of(disks: &mut Disks<MemoryDisk>) -> Result<Text, NoMemory> {
-    match disks.journal.read_at(0, 1_000_000) {
-        Ok(bytes) => Ok(bytes),
-        Err(_) => Err(NoMemory),
-    }
+#[test]
+fn the_loads_of_a_store_are_shown(rt: HostRuntime) {
+    let alloc = rt.alloc();
+    let load = "load s3://b/people.csv";
+    let mut machine = new_machine(&rt, alloc, PEOPLE);
+    machine.run(&rt, alloc, load);
+    assert!(rt; has_status(&rt, alloc, &mut machine, LOADED), "one load");
+    machine.run(&rt, alloc, load);
+    assert!(rt; comes_to(&rt, alloc, &mut machine, "status", Status::Ok, IDS, ""));
+}
+
+#[test]
+fn the_errors_of_a_load_are_shown(rt: HostRuntime) {
+    let alloc = rt.alloc();
+    let mut machine = new_machine(&rt, alloc, MISTYPED);
+    machine.run(&rt, alloc, "load s3://b/f");
+    assert!(rt;
+        has_status(&rt, alloc, &mut machine, FAILED),
+        "a load that failed"
+    );
+}
+
+const STREAM: &str = "stream --type TRIM_HORIZON";
+
+// Where a call of the journal fails nothing is shown, and the journal stays as it is.
+fn shows_nothing<R: Threads + Sync + Abort>(
+    rt: &R,
+    alloc: Global,
+    machine: &mut Machine,
+    journal: &[u8],
+    call: u64,
+) -> bool {
+    machine.disks = store(rt, alloc, journal, faults_at(rt, alloc, call));
+    let status = machine.run(rt, alloc, STREAM);
+    let is_fault = status == Status::StoreFault && machine.wrote(b"", b"bl: store fault\n");
+    is_fault && machine.journal(rt).as_slice() == journal
 }
 
 // Showing writes nothing to a store, and where a device fails says so.
 #[test]
-fn showing_leaves_the_store_as_it_is(rt: HostRuntime) -> Result<(), NoMemory> {
+fn showing_leaves_the_store_as_it_is(rt: HostRuntime) {
     let alloc = rt.alloc();
-    let mut loaded = run_files(&rt, alloc, "load s3://b/f", FOLDER_OF_TWO, NOTHING).disks;
-    let journal = journal_of(&mut loaded)?;
-    let words = "stream --type TRIM_HORIZON";
-    for call in 1u64..4 {
-        let disks = store(alloc, journal.as_slice(), call)?;
-        let mut outcome = show(&rt, alloc, words, disks, NOTHING);
-        assert!(rt; outcome.status == Status::StoreFault && outcome.out.is_empty());
-        assert!(rt; outcome.err.as_slice() == b"bl: store fault\n".as_slice());
-        assert!(rt; journal_of(&mut outcome.disks)?.as_slice() == journal.as_slice());
-    }
+    let mut machine = new_machine(&rt, alloc, FOLDER_OF_TWO);
+    machine.run(&rt, alloc, "load s3://b/f");
+    let journal = machine.journal(&rt);
     let fails = Failing { out: 1, ..NOTHING };
-    let mut outcome = show(&rt, alloc, words, loaded, fails);
-    assert!(rt; outcome.status == Status::WriteFault);
-    assert!(rt; outcome.err.as_slice() == b"bl: write fault\n".as_slice());
-    assert!(rt; journal_of(&mut outcome.disks)?.as_slice() == journal.as_slice());
-    Ok(())
+    let status = machine.runs(&rt, alloc, STREAM, fails);
+    assert!(rt; status == Status::WriteFault);
+    assert!(rt; machine.err.as_slice() == b"bl: write fault\n".as_slice());
+    assert!(rt; machine.journal(&rt).as_slice() == journal.as_slice());
+    for call in 1u64..4 {
+        let bytes = journal.as_slice();
+        assert!(rt;
+            shows_nothing(&rt, alloc, &mut machine, bytes, call),
+            "call {call}"
+        );
+    }
 }
 
 // The help names each command, and opens nothing.
 #[test]
-fn help_needs_no_store(rt: HostRuntime) -> Result<(), NoMemory> {
+fn help_needs_no_store(rt: HostRuntime) {
     let alloc = rt.alloc();
-    let disks = store(alloc, b"this is no journal at all", 1)?;
-    let outcome = show(&rt, alloc, "help", disks, NOTHING);
-    assert!(rt; outcome.status == Status::Ok && outcome.err.is_empty());
-    let text = str::from_utf8(outcome.out.as_slice()).unwrap_or("");
+    let mut machine = new_machine(&rt, alloc, NO_FILES);
+    machine.disks = store(
+        &rt,
+        alloc,
+        b"this is no journal at all",
+        Faults::none(alloc),
+    );
+    let status = machine.run(&rt, alloc, "help");
+    assert!(rt; status == Status::Ok && machine.err.is_empty());
+    let text = str::from_utf8(machine.out.as_slice()).unwrap_or("");
     for part in ["\n  load ", "\n  status ", "\n  stream ", "\n  help "] {
         assert!(rt; text.contains(part), "{part}");
     }
     let lines = text.lines().count();
     assert!(rt; lines > 10 && lines <= 24, "{lines} lines");
     assert!(rt; text.lines().all(|line| line.len() <= 80));
-    Ok(())
 }

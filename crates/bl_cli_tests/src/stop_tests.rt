@@ -1,19 +1,19 @@
 // Loads that are stopped at a call of the journal, and what the store then comes to.
 ghost use Rattle.std.specs.Prelude.{◌≡◌, ◌<◌};
 
-use crate::test_runs::{FileTable, NOTHING, disk, folder_of, line, run_files, run_over};
+use crate::test_runs::{FileTable, Machine, new_machine, store};
 use bl_cli::Status;
 use bl_engine::{Engine, ViewRefusal};
 use bl_files::{Counts, totals};
 use bl_load::{Held, drain};
 use bl_outside::{
-    Disk, Disks, Faults, Fill, FixedClock, List, MemoryDisk, MemoryFolder, NoMemory, Outside,
-    Steps, Text,
+    Disks, Faults, Fill, FixedClock, List, MemoryDisk, MemoryFolder, NoMemory, Steps, Text,
 };
 use bl_queue::{Job, JobStatus};
 use bl_workers::OpenGate;
 use std::alloc::Global;
 use std::marker::Brand;
+use std::mem;
 use std::process::Abort;
 use std::sync::ledger::{Blank, Ledger};
 use std::thread::Threads;
@@ -33,28 +33,12 @@ const SECOND: u128 = 0x0000_0000_0000_4000_8000_0000_0000_0002;
 
 // ---- the store
 
-// All bytes that reads see.
-fn content(disk: &mut MemoryDisk) -> Result<Text, Outside> {
-    let size = disk.size()?;
-    disk.read_at(0, u32::try_from(size).unwrap_or(u32::MAX))
-}
-
 // What the journal has behind a load that stopped at a record.
 fn first_journal<R: Threads + Sync + Abort>(rt: &R, alloc: Global) -> Text {
-    let mut first = run_files(rt, alloc, "load s3://b/f", BROKEN, NOTHING);
-    let want = line(alloc, 1, "LOAD_FAILED 2 0 0 1 0").expect(rt, "memory");
-    assert!(rt; first.out.as_slice() == want.as_slice());
-    content(&mut first.disks.journal).expect(rt, "a journal")
-}
-
-// A store with this journal, whose calls fail from this one on.
-fn failing_from(alloc: Global, journal: &Text, call: u64) -> Result<Disks<MemoryDisk>, NoMemory> {
-    let plan = Faults::of(List::new(alloc), call);
-    Ok(Disks {
-        journal: MemoryDisk::new(alloc, journal.copy(alloc)?, plan)?,
-        left: disk(alloc, b"", 0)?,
-        right: disk(alloc, b"", 0)?,
-    })
+    let mut machine = new_machine(rt, alloc, BROKEN);
+    machine.run(rt, alloc, "load s3://b/f");
+    assert!(rt; machine.wrote_line(rt, alloc, 1, "LOAD_FAILED 2 0 0 1 0"));
+    machine.journal(rt)
 }
 
 // The store as a stop leaves it. The slots were not written.
@@ -66,20 +50,22 @@ fn stopped(disks: Disks<MemoryDisk>, fill: Fill) -> Result<Disks<MemoryDisk>, No
     })
 }
 
-// The store that is left where the second load is stopped at this call.
+// The store that is left where the second load is stopped at this call of the journal.
 fn left_at<R: Threads + Sync + Abort>(
     rt: &R,
     alloc: Global,
-    folder: &mut MemoryFolder,
+    machine: &mut Machine,
     journal: &Text,
     call: u64,
     fill: Fill,
 ) -> Disks<MemoryDisk> {
-    let disks = failing_from(alloc, journal, call).expect(rt, "memory");
-    let words = "load s3://b/f --mode RESUME";
-    let second = run_over(rt, alloc, words, folder, disks, NOTHING);
-    assert!(rt; second.status == Status::StoreFault, "call {call}");
-    stopped(second.disks, fill).expect(rt, "memory")
+    let plan = Faults::of(List::new(alloc), call);
+    machine.disks = store(rt, alloc, journal.as_slice(), plan);
+    let status = machine.run(rt, alloc, "load s3://b/f --mode RESUME");
+    assert!(rt; status == Status::StoreFault, "call {call}");
+    let empty = store(rt, alloc, b"", Faults::none(alloc));
+    let left = mem::replace(&mut machine.disks, empty);
+    stopped(left, fill).expect(rt, "memory")
 }
 
 fn opened<L: Ledger>(
@@ -160,15 +146,15 @@ fn is_there<R: Abort>(rt: &R, engine: &mut Engine<MemoryDisk>) -> bool {
 fn stop_at<R: Threads + Sync + Abort>(
     rt: &R,
     alloc: Global,
+    machine: &mut Machine,
     journal: &Text,
     call: u64,
     fill: Fill,
     there: bool,
 ) {
-    let mut folder = folder_of(alloc, MENDED, 0).expect(rt, "memory");
-    let disks = left_at(rt, alloc, &mut folder, journal, call, fill);
+    let disks = left_at(rt, alloc, machine, journal, call, fill);
     let mut engine = open(alloc, disks).expect(rt, "a store");
-    drain_all(rt, alloc, &mut folder, &mut engine);
+    drain_all(rt, alloc, &mut machine.folder, &mut engine);
     assert!(rt; is_there(rt, &mut engine) == there, "call {call}, {fill:?}");
     close(engine);
 }
@@ -185,19 +171,24 @@ const FIRST_WRITE: u64 = 18;
 // entry on it is there.
 #[test]
 fn a_load_that_is_stopped_at_a_write_comes_to_the_whole(rt: HostRuntime) {
-    let journal = first_journal(&rt, rt.alloc());
+    let alloc = rt.alloc();
+    let journal = first_journal(&rt, alloc);
+    let mut machine = new_machine(&rt, alloc, MENDED);
     for write in 0u64..12 {
         let call = FIRST_WRITE + 2 * write;
-        stop_at(&rt, rt.alloc(), &journal, call, Fill::New, write >= 2);
+        let there = write >= 2;
+        stop_at(&rt, alloc, &mut machine, &journal, call, Fill::New, there);
     }
 }
 
 // The same of each of its syncs, before which something isn't synced. From this one on it is there.
 fn stop_at_syncs<R: Threads + Sync + Abort>(rt: &R, alloc: Global, fill: Fill, from: u64) {
     let journal = first_journal(rt, alloc);
+    let mut machine = new_machine(rt, alloc, MENDED);
     for sync in 0u64..12 {
         let call = FIRST_WRITE + 1 + 2 * sync;
-        stop_at(rt, alloc, &journal, call, fill, sync >= from);
+        let there = sync >= from;
+        stop_at(rt, alloc, &mut machine, &journal, call, fill, there);
     }
 }
 

@@ -1,42 +1,72 @@
 // Files of a folder in memory, their records and digests.
 ghost use Rattle.std.specs.Prelude.{◌≡◌, length, IfOk};
+ghost use Rattle.std.specs.Str.{IsUtf8};
 
 use bl_outside::{
     Digest, Faults, Folder, List, Listing, MemoryFolder, NoMemory, Outside, Piece, Text,
 };
 use bl_rows::{FileRefusal, RowReader, read_file, start};
 use std::alloc::Global;
+use std::process::Abort;
 
-// The file at the path, where `a` has these bytes, comes in pieces of at most a size, and one call
-// is to fail.
-fn file_read(
+fn path_of<R: Abort>(rt: &R, alloc: Global, path: &str) -> Text
+    ensures { IsUtf8 result }
+{
+    Text::of_str(alloc, path).expect(rt, "memory")
+}
+
+// A folder in which `a` has these bytes, which come in pieces of at most a size. One call is to
+// fail.
+fn folder_of<R: Abort>(
+    rt: &R,
     alloc: Global,
-    path: &str,
     bytes: &[u8],
     piece: u32,
     fails: u64,
-) -> Result<Text, FileRefusal> {
+) -> MemoryFolder {
     let mut plan = List::new(alloc);
-    plan.push(fails)?;
+    plan.push(fails).expect(rt, "memory");
     let mut folder = MemoryFolder::new(alloc, piece, Faults::of(plan, 0));
-    folder.put_file(Text::of_str(alloc, "a")?, Text::copy_of(alloc, bytes)?)?;
-    let file = read_file(alloc, &mut folder, &Text::of_str(alloc, path)?)?;
+    let file = Text::copy_of(alloc, bytes).expect(rt, "memory");
+    let path = path_of(rt, alloc, "a");
+    folder.put_file(path, file).expect(rt, "memory");
+    folder
+}
+
+// The file at the path.
+fn file_read<R: Abort>(
+    rt: &R,
+    alloc: Global,
+    path: &str,
+    folder: &mut MemoryFolder,
+) -> Result<Text, FileRefusal> {
+    let path = path_of(rt, alloc, path);
+    let file = read_file(alloc, folder, &path)?;
     Ok(file.bytes)
+}
+
+// Whether the file `a` is read whole.
+fn is_read<R: Abort>(rt: &R, alloc: Global, bytes: &[u8], piece: u32) -> bool {
+    let mut folder = folder_of(rt, alloc, bytes, piece, 0);
+    let read = file_read(rt, alloc, "a", &mut folder).expect(rt, "a file");
+    read.as_slice() == bytes
+}
+
+// Why the file isn't read, where it isn't.
+fn refusal<R: Abort>(rt: &R, alloc: Global, path: &str, fails: u64) -> Option<FileRefusal> {
+    let mut folder = folder_of(rt, alloc, b"hello", 2, fails);
+    file_read(rt, alloc, path, &mut folder).err()
 }
 
 #[test]
 fn a_file_is_read_to_its_end_in_whatever_pieces(rt: HostRuntime) {
     let alloc = rt.alloc();
     for piece in 1..6 {
-        let bytes = file_read(alloc, "a", b"hello", piece, 0).expect(&rt, "a file");
-        assert!(rt; bytes.as_slice() == b"hello".as_slice());
+        assert!(rt; is_read(&rt, alloc, b"hello", piece));
     }
-    let bytes = file_read(alloc, "a", b"", 1, 0).expect(&rt, "a file");
-    assert!(rt; bytes.is_empty());
-    let missing = file_read(alloc, "b", b"hello", 2, 0);
-    assert!(rt; matches!(missing, Err(FileRefusal::Missing)));
-    let failed = file_read(alloc, "a", b"hello", 2, 2);
-    assert!(rt; matches!(failed, Err(FileRefusal::ReadFault)));
+    assert!(rt; is_read(&rt, alloc, b"", 1));
+    assert!(rt; refusal(&rt, alloc, "b", 0) == Some(FileRefusal::Missing));
+    assert!(rt; refusal(&rt, alloc, "a", 2) == Some(FileRefusal::ReadFault));
 }
 
 // A folder with one file of this size, whose bytes are made as they are asked for. It notes the
@@ -93,33 +123,37 @@ fn a_file_has_a_limit_to_the_byte_and_is_read_in_pieces_of_a_mebibyte(rt: HostRu
     }
 }
 
-fn reader_of(alloc: Global, bytes: &[u8]) -> Result<RowReader, FileRefusal> {
-    let mut folder = MemoryFolder::new(alloc, 1, Faults::none(alloc));
-    folder.put_file(Text::of_str(alloc, "a")?, Text::copy_of(alloc, bytes)?)?;
-    let file = read_file(alloc, &mut folder, &Text::of_str(alloc, "a")?)?;
-    Ok(start(alloc, file)?)
+fn reader_of<R: Abort>(rt: &R, alloc: Global, bytes: &[u8]) -> RowReader {
+    let mut folder = folder_of(rt, alloc, bytes, 1, 0);
+    let path = path_of(rt, alloc, "a");
+    let file = read_file(alloc, &mut folder, &path).expect(rt, "a file");
+    start(alloc, file).expect(rt, "memory")
 }
 
 // Adds a bar after each field, and a line end.
-fn write(fields: &List<Text>, out: &mut Text) -> Result<(), NoMemory> {
+fn write<R: Abort>(rt: &R, fields: &List<Text>, out: &mut Text) {
     for field in fields.as_slice() {
-        out.extend(field.as_slice())?;
-        out.push(b'|')?;
+        out.extend(field.as_slice()).expect(rt, "memory");
+        out.push(b'|').expect(rt, "memory");
     }
-    out.push(b'\n')
+    out.push(b'\n').expect(rt, "memory");
+}
+
+fn write_next<R: Abort>(rt: &R, reader: &mut RowReader, out: &mut Text) {
+    if let Some(fields) = reader.next().expect(rt, "memory") {
+        write(rt, &fields, out);
+    }
 }
 
 // The header and the records, each in a line.
-fn written(alloc: Global, bytes: &[u8]) -> Result<Text, FileRefusal> {
-    let mut reader = reader_of(alloc, bytes)?;
+fn written<R: Abort>(rt: &R, alloc: Global, bytes: &[u8]) -> Text {
+    let mut reader = reader_of(rt, alloc, bytes);
     let mut out = Text::new(alloc);
-    write(reader.header(), &mut out)?;
+    write(rt, reader.header(), &mut out);
     for _ in 0..10 {
-        if let Some(fields) = reader.next()? {
-            write(&fields, &mut out)?;
-        }
+        write_next(rt, &mut reader, &mut out);
     }
-    Ok(out)
+    out
 }
 
 #[test]
@@ -139,25 +173,25 @@ fn a_file_has_its_records(rt: HostRuntime) {
         (b"", b"\n"),
     ];
     for (bytes, wanted) in &table {
-        let out = written(rt.alloc(), bytes).expect(&rt, "records");
+        let out = written(&rt, rt.alloc(), bytes);
         assert!(rt; out.as_slice() == *wanted);
     }
+}
+
+fn is_empty<R: Abort>(rt: &R, alloc: Global, bytes: &[u8]) -> bool {
+    reader_of(rt, alloc, bytes).is_empty()
 }
 
 #[test]
 fn a_file_without_a_record_has_none(rt: HostRuntime) {
     let alloc = rt.alloc();
-    let empty = reader_of(alloc, b"").expect(&rt, "a reader");
-    assert!(rt; empty.is_empty());
-    let lines = reader_of(alloc, b"\n\r\n").expect(&rt, "a reader");
-    assert!(rt; lines.is_empty());
-    let head = reader_of(alloc, b"~id").expect(&rt, "a reader");
-    assert!(rt; !head.is_empty());
+    assert!(rt; is_empty(&rt, alloc, b"") && is_empty(&rt, alloc, b"\n\r\n"));
+    assert!(rt; !is_empty(&rt, alloc, b"~id"));
 }
 
 #[test]
 fn a_reader_that_has_ended_stays_ended(rt: HostRuntime) {
-    let mut reader = reader_of(rt.alloc(), b"~id\nv1\nv2\n").expect(&rt, "a reader");
+    let mut reader = reader_of(&rt, rt.alloc(), b"~id\nv1\nv2\n");
     let table: [(bool, u64); 5] = [(true, 1), (true, 2), (false, 2), (false, 2), (false, 2)];
     for (found, taken) in &table {
         let record = reader.next().expect(&rt, "memory");
@@ -166,24 +200,29 @@ fn a_reader_that_has_ended_stays_ended(rt: HostRuntime) {
     }
 }
 
+// The digit of a number below 16.
+fn digit(number: u8) -> u8 {
+    let place = usize::from(number);
+    b"0123456789abcdef".get(place).copied().unwrap_or(b'?')
+}
+
 // Bytes in hexadecimal digits.
-fn hexadecimal(alloc: Global, digest: Digest) -> Result<Text, NoMemory> {
-    let digits = b"0123456789abcdef";
+fn hexadecimal<R: Abort>(rt: &R, alloc: Global, digest: &Digest) -> Text {
     let mut out = Text::new(alloc);
     for byte in digest.bytes {
-        out.push(digits[(byte / 16) as usize])?;
-        out.push(digits[(byte % 16) as usize])?;
+        let pair = [digit(byte / 16), digit(byte % 16)];
+        out.extend(pair.as_slice()).expect(rt, "memory");
     }
-    Ok(out)
+    out
 }
 
 // The digest after so many records.
-fn digest_after(alloc: Global, bytes: &[u8], records: usize) -> Result<Text, FileRefusal> {
-    let mut reader = reader_of(alloc, bytes)?;
+fn digest_after<R: Abort>(rt: &R, alloc: Global, bytes: &[u8], records: usize) -> Text {
+    let mut reader = reader_of(rt, alloc, bytes);
     for _ in 0..records {
-        reader.next()?;
+        reader.next().expect(rt, "memory");
     }
-    Ok(hexadecimal(alloc, reader.digest())?)
+    hexadecimal(rt, alloc, &reader.digest())
 }
 
 #[test]
@@ -226,7 +265,7 @@ fn a_digest_goes_over_the_records_that_were_taken(rt: HostRuntime) {
         ),
     ];
     for (bytes, records, wanted) in &table {
-        let digest = digest_after(rt.alloc(), bytes, *records).expect(&rt, "a digest");
+        let digest = digest_after(&rt, rt.alloc(), bytes, *records);
         assert!(rt; digest.as_slice() == wanted.as_bytes());
     }
 }
