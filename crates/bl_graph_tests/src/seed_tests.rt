@@ -82,12 +82,30 @@ fn in_set<R: Abort>(rt: &R, alloc: Global, number: u32) -> (Text, Text, Value) {
 
 fn add<R: Abort>(rt: &R, graph: &mut Graph, (id, key, value): (Text, Text, Value)) {
     let side = Side::Vertex;
-    apply(rt, graph, Change::AddValue { side, id, key, value });
+    apply(
+        rt,
+        graph,
+        Change::AddValue {
+            side,
+            id,
+            key,
+            value,
+        },
+    );
 }
 
 fn remove<R: Abort>(rt: &R, graph: &mut Graph, (id, key, value): (Text, Text, Value)) {
     let side = Side::Vertex;
-    apply(rt, graph, Change::RemoveValue { side, id, key, value });
+    apply(
+        rt,
+        graph,
+        Change::RemoveValue {
+            side,
+            id,
+            key,
+            value,
+        },
+    );
 }
 
 // A label, a key with a value, and a value of one key, each a new one.

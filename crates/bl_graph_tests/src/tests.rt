@@ -88,10 +88,7 @@ const SINGLE_VALUES: [(bool, (Line, Answer)); 5] = [
         ),
     ),
     (false, (IS_ANN, Answer::Duplicate)),
-    (
-        false,
-        (IS_BOB, Answer::Refused(LogCode::SingleConflict, 3)),
-    ),
+    (false, (IS_BOB, Answer::Refused(LogCode::SingleConflict, 3))),
     (
         true,
         (
