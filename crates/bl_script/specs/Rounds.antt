@@ -7,7 +7,8 @@ use Rattle.bl_outside.specs.declared.disk.Disk.{Ghosts}
 use Rattle.bl_engine.specs.Engines.{View}
 use Rattle.bl_http.specs.declared.asked.Asked.{Asked}
 use Rattle.bl_http.specs.declared.asked.Asked.TheVariants as asked
-use Rattle.bl_http.specs.Inputs.{Ahead, Asks}
+use Rattle.bl_http.specs.Buffers.{BufferRecord}
+use Rattle.bl_http.specs.Inputs.{Ahead, Asks, ahead}
 use Rattle.bl_load.specs.declared.turn_fault.TurnFault.{TurnFault}
 use Rattle.bl_session.specs.declared.reply.Reply.{Reply}
 use Rattle.bl_session.specs.Answers.{Answered}
@@ -70,6 +71,10 @@ refusal_in [] = None
 refusal_in (round ∷ rounds) = earlier (first_refusal round.turns) (refusal_in rounds)
 
 -- ---- the input
+
+-- what is ahead of a buffer over what the source has left, where it is told
+abbrev pub ahead_in : BufferRecord → Option (List ℕ) → Option Ahead
+ahead_in buffer left = option_map (ahead buffer) left
 
 -- What stands next in the input, where it is told.
 abbrev pub AsksNext : Option Ahead → Asked → Option Ahead → Type 0
