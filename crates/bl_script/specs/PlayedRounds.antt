@@ -109,7 +109,7 @@ pub record HaveGone {D : Type 0} (of : Ghosts D) (salt most : ℕ) (files : Opti
   pub rounds : List (Round D)
   pub are : AreRounds of salt most files old.engine old.faults rounds new.engine new.faults
   pub asked : AreAsked old.ahead rounds new.ahead
-  pub open : AreOpen rounds
+  pub going : AreOpen rounds
   pub writes : Writes (replies rounds) old.written new.written
   pub first_is : first ≡ refusal_in rounds
 

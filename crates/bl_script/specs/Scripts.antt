@@ -25,7 +25,7 @@ Meets rest it = (next : Option Ahead) × AsksNext rest it next
 abbrev pub IsOver : {D : Type 0} → List (Round D) → Option Ahead → Type 0
 IsOver rounds rest =
     (AreOpen rounds × Meets rest asked.End)
-    ⊎ ((open : List (Round _)) × (last : Round _) × (rounds ≡ open ++ last ∷ []) × AreOpen open × (last.answer.closes ≡ true))
+    ⊎ ((before : List (Round _)) × (last : Round _) × (rounds ≡ before ++ last ∷ []) × AreOpen before × (last.answer.closes ≡ true))
 
 -- Behind the rounds turns are made until one finds no work or is refused. The refusal is the first one of all turns.
 pub record IsDrainedBy {D : Type 0} (of : Ghosts D) (files : Option Files) (rounds : List (Round D)) (between new : View D) (refused : Option TurnFault) : Type 0 where

@@ -1,8 +1,8 @@
 // Turns behind a reply.
-ghost use Rattle.std.specs.Prelude.{◌≡◌};
+ghost use Rattle.std.specs.Prelude.{◌≡◌, Some};
 ghost use Rattle.bl_outside.specs.Folders.{Files};
 ghost use Rattle.bl_load.specs.OpenFiles.{IsFresh};
-ghost use Rattle.bl_script.specs.Turns.{MakesTurns};
+ghost use Rattle.bl_script.specs.Turns.{MakesTurns, ends_round};
 
 use bl_engine::{Engine, Turned};
 use bl_load::{Held, TurnFault, turn};
@@ -10,6 +10,19 @@ use bl_outside::{Clock, Disk, Folder};
 use bl_workers::Gate;
 use std::alloc::Global;
 use std::thread::Threads;
+
+// No turn of a round is made behind one that found no work or was refused.
+fn ends_round(made: &Result<Turned, TurnFault>) -> bool
+    ensures { result ≡ ends_round made.now }
+{
+    match made {
+        Ok(turned) => match turned {
+            Turned::Idle => true,
+            Turned::Planned | Turned::Rows(_) | Turned::Ended(_) => false,
+        },
+        Err(_) => true,
+    }
+}
 
 /// Makes turns until so many were made, one found no work, or one was refused; and why it was.
 pub fn make_turns<R: Threads + Sync, F: Folder, D: Disk, K: Clock, G: Gate>(
@@ -29,10 +42,9 @@ pub fn make_turns<R: Threads + Sync, F: Folder, D: Disk, K: Clock, G: Gate>(
     ensures files { F.files folder.new ≡ F.files folder.old }
 {
     for _ in 0..most {
-        match turn(rt, alloc, engine, folder, clock, held, gate) {
-            Ok(Turned::Idle) => return None,
-            Ok(_) => {}
-            Err(fault) => return Some(fault),
+        let made = turn(rt, alloc, engine, folder, clock, held, gate);
+        if ends_round(&made) {
+            return made.err();
         }
     }
     None
