@@ -73,8 +73,8 @@ module _ {D : Type 0} (of : Ghosts D) (files : Option Files) where
   more_counted [] turn = refl
   more_counted (first ∷ turns) turn = omega (arith, more_counted turns turn)
 
-  no_turns : [] {A = MadeTurn D} ≡ []
-  no_turns = refl
+  still : (turns : List (MadeTurn D)) → turns ≡ turns
+  still turns = refl
 
   -- all were made that may be
   all_made : (most : ℕ) (turns : List (MadeTurn D)) → GoOn turns → length turns ≡ most → IsRoundOfTurns most turns
@@ -86,7 +86,7 @@ module _ {D : Type 0} (of : Ghosts D) (files : Option Files) where
 
   -- the last one ends the round
   last_made : (most : ℕ) (turns : List (MadeTurn D)) (turn : MadeTurn D) → GoOn turns → length turns < most → ends_round turn.result ≡ true → IsRoundOfTurns most (turns ++ turn ∷ [])
-  last_made most [] turn going few ends = (omega (arith, few), subst (λ (b : Bool). GoesOn {D = D} b [] (most - 1 ≡ 0)) (sym ends) (no_turns))
+  last_made most [] turn going few ends = (omega (arith, few), subst (λ (b : Bool). GoesOn {D = D} b [] (most - 1 ≡ 0)) (sym ends) (still []))
   last_made most (first ∷ turns) turn going few ends = (
     omega (arith, few),
     subst (λ b. GoesOn {D = D} b (turns ++ turn ∷ []) (IsRoundOfTurns {D = D} (most - 1) (turns ++ turn ∷ []))) (sym going.0) (last_made (most - 1) turns turn going.1 (omega (arith, few)) ends),

@@ -1,5 +1,5 @@
 // Turns behind a reply.
-ghost use Rattle.std.specs.Prelude.{◌≡◌, Some};
+ghost use Rattle.std.specs.Prelude.{◌≡◌, ◌≤◌, Some};
 ghost use Rattle.bl_outside.specs.Folders.{Files};
 ghost use Rattle.bl_load.specs.OpenFiles.{IsFresh};
 ghost use Rattle.bl_script.specs.Turns.{MakesTurns, ends_round};
@@ -40,6 +40,7 @@ pub fn make_turns<R: Threads + Sync, F: Folder, D: Disk, K: Clock, G: Gate>(
         (F.faults folder.old) engine.new (F.faults folder.new) result }
     ensures fresh { (files : Files) → F.files folder.new ≡ Some files → IsFresh files held.new }
     ensures files { F.files folder.new ≡ F.files folder.old }
+    ensures later { F.faults folder.old ≤ F.faults folder.new }
 {
     for _ in 0..most {
         let made = turn(rt, alloc, engine, folder, clock, held, gate);
