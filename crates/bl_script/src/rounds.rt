@@ -42,8 +42,8 @@ fn answer_next<D: Disk, K: Clock, S: Source, O: Sink>(
         → Rose (O.faults out.old) (O.faults out.new) }
 {
     let mut desk = EngineDesk {
-        engine: &mut *engine,
-        clock: &mut *clock,
+        engine,
+        clock,
         salt,
     };
     step_over(alloc, input, out, buffer, &mut desk)
