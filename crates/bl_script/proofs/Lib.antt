@@ -1,0 +1,5 @@
+pub mod MadeTurns
+pub mod Ahead
+pub mod AnsweredNext
+pub mod PlayedRounds
+pub mod KeptStores

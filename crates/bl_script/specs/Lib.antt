@@ -1,0 +1,4 @@
+pub mod Turns
+pub mod Rounds
+pub mod Scripts
+pub mod PlayedRounds
