@@ -1,5 +1,0 @@
-pub mod MadeTurns
-pub mod Ahead
-pub mod AnsweredNext
-pub mod PlayedRounds
-pub mod KeptStores

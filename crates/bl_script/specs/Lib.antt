@@ -1,4 +1,0 @@
-pub mod Turns
-pub mod Rounds
-pub mod Scripts
-pub mod PlayedRounds
