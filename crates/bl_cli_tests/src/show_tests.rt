@@ -1,7 +1,7 @@
 // What is shown of a store, and the help.
 use crate::test_runs::{
     FOLDER_OF_TWO, Failing, FileTable, Machine, NO_FILES, NOTHING, PEOPLE, faults_at, new_machine,
-    store,
+    page, store,
 };
 use bl_cli::Status;
 use bl_outside::Faults;
@@ -67,27 +67,6 @@ fn an_empty_store_has_no_load_and_no_record(rt: HostRuntime) {
         let is = comes_to(&rt, alloc, &mut machine, words, status, out, err);
         assert!(rt; is, "{words}");
     }
-}
-
-fn page_head<R: Abort>(rt: &R, alloc: Global, commit: u32, op: u32) -> String {
-    let head = format!(in alloc;
-        "{{\"format\":\"PG_JSON\",\"lastEventId\":{{\"commitNum\":{commit},\"opNum\":{op}}},\"lastTrxTimestamp\":0,\"records\":["
-    );
-    head.expect(rt, "memory")
-}
-
-// A page with these records, of which the last has this place.
-fn page<R: Abort>(rt: &R, alloc: Global, commit: u32, op: u32, records: &[&str]) -> String {
-    let mut text = page_head(rt, alloc, commit, op);
-    for (i, record) in records.iter().enumerate() {
-        let comma = if i > 0 { "," } else { "" };
-        text.push_str(comma).expect(rt, "memory");
-        text.push_str(record).expect(rt, "memory");
-    }
-    let count = records.len();
-    let end = format!(in alloc; "],\"totalRecords\":{count}}}\n").expect(rt, "memory");
-    text.push_str(end.as_str()).expect(rt, "memory");
-    text
 }
 
 #[test]

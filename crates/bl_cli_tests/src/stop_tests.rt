@@ -1,7 +1,7 @@
 // Loads that are stopped at a call of the journal, and what the store then comes to.
 ghost use Rattle.std.specs.Prelude.{◌≡◌, ◌<◌};
 
-use crate::test_runs::{FileTable, Machine, new_machine, store};
+use crate::test_runs::{FileTable, Machine, new_machine, page, store};
 use bl_cli::Status;
 use bl_engine::{Engine, ViewRefusal};
 use bl_files::{Counts, totals};
@@ -30,6 +30,33 @@ const MENDED: FileTable = &[
 
 // The id of the second load over the salt 0.
 const SECOND: u128 = 0x0000_0000_0000_4000_8000_0000_0000_0002;
+
+// The changes of the first load, which stopped at its second record.
+const FIRST: [&str; 2] = [V1, V1_AGE];
+
+// Those of both loads.
+const WHOLE: [&str; 7] = [V1, V1_AGE, V2, V2_AGE, V3, V3_AGE, W1];
+
+const V1: &str =
+    "{\"commitTimestamp\":0,\"data\":{\"id\":\"v1\",\"key\":\"label\",\"type\":\"vl\",\"value\":{\"dataType\":\"String\",\"value\":\"vertex\"}},\"eventId\":{\"commitNum\":1,\"opNum\":1},\"op\":\"ADD\"}";
+
+const V1_AGE: &str =
+    "{\"commitTimestamp\":0,\"data\":{\"id\":\"v1\",\"key\":\"age\",\"type\":\"vp\",\"value\":{\"dataType\":\"Int\",\"value\":1}},\"eventId\":{\"commitNum\":1,\"opNum\":2},\"isLastOp\":true,\"op\":\"ADD\"}";
+
+const V2: &str =
+    "{\"commitTimestamp\":0,\"data\":{\"id\":\"v2\",\"key\":\"label\",\"type\":\"vl\",\"value\":{\"dataType\":\"String\",\"value\":\"vertex\"}},\"eventId\":{\"commitNum\":2,\"opNum\":1},\"op\":\"ADD\"}";
+
+const V2_AGE: &str =
+    "{\"commitTimestamp\":0,\"data\":{\"id\":\"v2\",\"key\":\"age\",\"type\":\"vp\",\"value\":{\"dataType\":\"Int\",\"value\":7}},\"eventId\":{\"commitNum\":2,\"opNum\":2},\"op\":\"ADD\"}";
+
+const V3: &str =
+    "{\"commitTimestamp\":0,\"data\":{\"id\":\"v3\",\"key\":\"label\",\"type\":\"vl\",\"value\":{\"dataType\":\"String\",\"value\":\"vertex\"}},\"eventId\":{\"commitNum\":2,\"opNum\":3},\"op\":\"ADD\"}";
+
+const V3_AGE: &str =
+    "{\"commitTimestamp\":0,\"data\":{\"id\":\"v3\",\"key\":\"age\",\"type\":\"vp\",\"value\":{\"dataType\":\"Int\",\"value\":5}},\"eventId\":{\"commitNum\":2,\"opNum\":4},\"isLastOp\":true,\"op\":\"ADD\"}";
+
+const W1: &str =
+    "{\"commitTimestamp\":0,\"data\":{\"id\":\"w1\",\"key\":\"label\",\"type\":\"vl\",\"value\":{\"dataType\":\"String\",\"value\":\"vertex\"}},\"eventId\":{\"commitNum\":3,\"opNum\":1},\"isLastOp\":true,\"op\":\"ADD\"}";
 
 // ---- the store
 
@@ -88,8 +115,10 @@ fn open(alloc: Global, disks: Disks<MemoryDisk>) -> Option<Engine<MemoryDisk>> {
     opened::<Brand>(alloc, disks, Blank::new(1))
 }
 
-// Lets an engine go. It has many parts, so that nothing else is done here.
-fn close(_engine: Engine<MemoryDisk>) {}
+// Lets an engine go, but for its disks. It has many parts, so that nothing else is done here.
+fn close(engine: Engine<MemoryDisk>) -> Disks<MemoryDisk> {
+    engine.into_disks()
+}
 
 // ---- what it comes to
 
@@ -142,6 +171,20 @@ fn is_there<R: Abort>(rt: &R, engine: &mut Engine<MemoryDisk>) -> bool {
     }
 }
 
+// The changes of the store are those of a load without a stop, or of the first load alone.
+fn has_changes<R: Threads + Sync + Abort>(
+    rt: &R,
+    alloc: Global,
+    machine: &mut Machine,
+    there: bool,
+) -> bool {
+    let records: &[&str] = if there { &WHOLE } else { &FIRST };
+    let (commit, op) = if there { (3, 1) } else { (1, 2) };
+    let expected = page(rt, alloc, commit, op, records);
+    let status = machine.run(rt, alloc, "stream --type TRIM_HORIZON --limit 100");
+    status == Status::Ok && machine.wrote(expected.as_bytes(), b"")
+}
+
 // Where the second load is stopped at this call it is there or not, and whole.
 fn stop_at<R: Threads + Sync + Abort>(
     rt: &R,
@@ -156,7 +199,11 @@ fn stop_at<R: Threads + Sync + Abort>(
     let mut engine = open(alloc, disks).expect(rt, "a store");
     drain_all(rt, alloc, &mut machine.folder, &mut engine);
     assert!(rt; is_there(rt, &mut engine) == there, "call {call}, {fill:?}");
-    close(engine);
+    machine.disks = close(engine);
+    assert!(rt;
+        has_changes(rt, alloc, machine, there),
+        "changes at call {call}"
+    );
 }
 
 // ---- stops

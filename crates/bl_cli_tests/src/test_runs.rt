@@ -248,6 +248,35 @@ fn line<R: Abort>(rt: &R, alloc: Global, number: u32, rest: &str) -> String {
     line.expect(rt, "memory")
 }
 
+// ---- pages of the change stream
+
+fn page_head<R: Abort>(rt: &R, alloc: Global, commit: u32, op: u32) -> String {
+    let head = format!(in alloc;
+        "{{\"format\":\"PG_JSON\",\"lastEventId\":{{\"commitNum\":{commit},\"opNum\":{op}}},\"lastTrxTimestamp\":0,\"records\":["
+    );
+    head.expect(rt, "memory")
+}
+
+// A page with these records, of which the last has this place.
+pub(crate) fn page<R: Abort>(
+    rt: &R,
+    alloc: Global,
+    commit: u32,
+    op: u32,
+    records: &[&str],
+) -> String {
+    let mut text = page_head(rt, alloc, commit, op);
+    for (i, record) in records.iter().enumerate() {
+        let comma = if i > 0 { "," } else { "" };
+        text.push_str(comma).expect(rt, "memory");
+        text.push_str(record).expect(rt, "memory");
+    }
+    let count = records.len();
+    let end = format!(in alloc; "],\"totalRecords\":{count}}}\n").expect(rt, "memory");
+    text.push_str(end.as_str()).expect(rt, "memory");
+    text
+}
+
 // How often a text stands in another.
 fn count(text: &[u8], part: &[u8]) -> u64 {
     let mut count: u64 = 0;
