@@ -8,6 +8,7 @@ use bl_change::{
 use bl_outside::Text;
 use bl_value::{Change, Side, Value, date_texts_are_read_back};
 use std::alloc::{AllocError, Global};
+use std::process::Abort;
 
 #[test]
 fn records_are_read_as_their_events(rt: HostRuntime) {
@@ -382,12 +383,12 @@ fn other_escapes_are_not_those_of_an_event(rt: HostRuntime) {
     }
 }
 
-fn letters(alloc: Global, count: usize) -> Result<String, AllocError> {
+fn letters<R: Abort>(rt: &R, alloc: Global, count: usize) -> String {
     let mut text = String::new(alloc);
     for _ in 0..count {
-        text.push('a')?;
+        text.push_str("a").expect(rt, "memory");
     }
-    Ok(text)
+    text
 }
 
 #[test]
@@ -399,9 +400,9 @@ fn ids_labels_and_keys_have_their_lengths(rt: HostRuntime) {
         (1024, 257, 1024, false),
         (1024, 256, 1025, false),
     ] {
-        let id = letters(rt.alloc(), id).expect(&rt, "memory");
-        let key = letters(rt.alloc(), key).expect(&rt, "memory");
-        let label = letters(rt.alloc(), label).expect(&rt, "memory");
+        let id = letters(&rt, rt.alloc(), id);
+        let key = letters(&rt, rt.alloc(), key);
+        let label = letters(&rt, rt.alloc(), label);
         let property = format!(in rt.alloc();
             "{{\"id\":\"{id}\",\"key\":\"{key}\",\"type\":\"vp\",\"value\":{{\"dataType\":\"String\",\"value\":\"\"}}}}"
         ).expect(&rt, "memory");
