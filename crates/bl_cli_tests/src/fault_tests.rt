@@ -28,7 +28,7 @@ fn fails_at<R: Threads + Sync + Abort>(rt: &R, alloc: Global, call: u64) -> bool
     status != Status::Ok
 }
 
-// The load is made once no call fails: to open an empty store, and four for each of its six entries.
+// Calls are made to open an empty store, and four for each of the load's six entries.
 #[test]
 fn each_call_of_the_journal_may_fail(rt: HostRuntime) {
     let alloc = rt.alloc();
