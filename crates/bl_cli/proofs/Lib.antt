@@ -13,6 +13,7 @@ mod MadeAll
 mod OpenedStores
 mod ToldTexts
 mod ShownStores
+mod ScriptedStores
 mod Reported
 mod PrintableChanges
 mod LoadedEngines

@@ -120,7 +120,7 @@ module _ {D : Type 0} (of : Ghosts D) (counts : (disk : D) (t : ℕ) (c : List �
 
 module _ {D : Type 0} (of : Ghosts D) (told : Files) (old new : Disks D) (engine last : View D) (opens : Opens of old.journal engine.journal (Ok engine.world)) (ready : engine.ready ≡ true) (same : new.journal ≡ last.journal.disk) where
   -- where the engine stands
-  opened_at : (opened : Opened of old.journal engine.journal engine.world) → IsAt of engine opened.entries
+  pub opened_at : (opened : Opened of old.journal engine.journal engine.world) → IsAt of engine opened.entries
   opened_at opened = record { ready = ready; valid = opened.valid; ends = opened.ends; world = opened.leads }
 
   reached : (first : List Entry) (to : State) → Reaches (IsMade (AreTablesOf told)) (at_rest first) to → (more : List Entry) × AreNew (IsMade (AreTablesOf told)) first more × EndsBehind told (more ++ first) to
@@ -161,6 +161,12 @@ module _ {D : Type 0} (of : Ghosts D) (told : Files) (old new : Disks D) (engine
   pub grown : IsSound of old.journal → ((entries : List Entry) → IsAt of engine entries → DrainsOver of told engine last (at_rest entries)) → HasGrown of told old new
   grown sound drains = let opened : Opened of old.journal engine.journal engine.world = opens.opened sound in grown_by opened sound (drains opened.entries (opened_at opened))
 
+-- A crash leaves what an engine that is ready stands for.
+pub leads_now : {D : Type 0} (of : Ghosts D) (new : Disks D) (last : View D) → new.journal ≡ last.journal.disk → (entries : List Entry) → IsAt of last entries → LeadsTo of new last.world
+leads_now of new last journal entries at image now =
+    let is : IsImageOf (at_rest entries) image = stays_now of last (at_rest entries) (inl (at, refl)) image (subst (λ d. of.may_leave d image) journal now) in
+    (is.0, is.2, subst (λ l. IsWorldOf l last.world) (sym is.1) at.world)
+
 -- what has grown so is left so
 pub left_grown : {D : Type 0} (of : Ghosts D) (told : Files) (old new : Disks D) → IsSound of new.journal → HasGrown of told old new → IsLeft of new
 left_grown of told old new sound grown = record {
@@ -179,10 +185,7 @@ module _ {D : Type 0} (of : Ghosts D) (files : Option Files) (salt : ℕ) (load 
   sound_new sound = subst (λ d. IsSound of d) (sym journal) (sound_last sound)
 
   leads_to : last.ready ≡ true → IsSound of old.journal → LeadsTo of new last.world
-  leads_to is_ready sound image now =
-      let stands = at is_ready (sound_last sound) in
-      let is : IsImageOf (at_rest stands.0) image = stays_now of last (at_rest stands.0) (inl (stands.1, refl)) image (subst (λ d. of.may_leave d image) journal now) in
-      (is.0, is.2, subst (λ l. IsWorldOf l last.world) (sym is.1) stands.1.world)
+  leads_to is_ready sound = let stands = at is_ready (sound_last sound) in leads_now of new last journal stands.0 stands.1
 
   prints_job : (P : List ℕ → List ℕ → List ℕ → Type 0) (it : Job) → PrintsLoad P salt load engine last before after it → PrintsJob P of salt load old new before after it
   prints_job P it prints = record {

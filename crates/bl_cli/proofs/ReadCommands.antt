@@ -1,7 +1,7 @@
 -- Words that are read are those that ask.
-use Rattle.std.specs.Prelude.{◌≡◌, ◌≤◌, ℕ, Bool, true, false, cond, codes, length, map, option_map, List, [], ◌∷◌, Some, None, refl}
+use Rattle.std.specs.Prelude.{◌≡◌, ◌≤◌, ◌⊎◌, ℕ, Bool, true, false, cond, codes, length, map, option_map, List, [], ◌∷◌, Some, None, refl}
 use Rattle.std.specs.declared.option.Option.{Option}
-use Rattle.std.proofs.Common.{sym, ap, subst, ◌∙◌, arith}
+use Rattle.std.proofs.Common.{inl, inr, sym, ap, subst, ◌∙◌, arith}
 use Rattle.std.proofs.lemmas.Option.{same_Some}
 use Rattle.bl_stream.specs.declared.page_ask.PageAsk.{PageAsk}
 use Rattle.bl_feed.specs.LoadBodies.{id_in}
@@ -9,9 +9,10 @@ use Rattle.bl_cli.specs.declared.command.Command.{Command}
 use Rattle.bl_cli.specs.declared.command.Command.TheVariants as command
 use Rattle.bl_cli.specs.declared.command.Look.{Look}
 use Rattle.bl_cli.specs.declared.command.Look.TheVariants as look
-use Rattle.bl_cli.specs.Commands.{AskForNothing, AsksFor, AsksForPage, AsksToShow}
+use Rattle.bl_feed.specs.Parameters.{number_in}
+use Rattle.bl_cli.specs.Commands.{AskForNothing, AsksFor, AsksForPage, AsksForScript, AsksToShow}
 use Rattle.bl_cli.specs.Options.{is_word}
-use Rattle.bl_cli.specs.Reading.{is_help, look_in, page_in, page_shown, status_in}
+use Rattle.bl_cli.specs.Reading.{is_help, look_in, page_in, page_shown, script_in, status_in, turns_in}
 use Rattle.bl_cli.specs.Words.{AskForNoLoad}
 use Rattle.bl_cli.proofs.Readings.{same_word}
 use Rattle.bl_cli.proofs.StreamOptions.{page_is_asked, page_is_read}
@@ -27,6 +28,9 @@ help_is_read : (words : List (List ℕ)) → words ≡ codes "help" ∷ [] → i
 help_is_read words is = ap is_help is
 
 -- ---- what is to be shown
+
+abbrev some_number : ℕ → Option ℕ
+some_number n = Some n
 
 abbrev some_look : Look → Option Look
 some_look what = Some what
@@ -72,9 +76,41 @@ look_is_read (word ∷ rest) (look.Page ask) asks =
     ap (λ w. look_in (w ∷ rest)) first
     ∙ ap (λ made. option_map (λ ask. look.Page ask) made) (page_is_read rest ask (subst (λ w. AsksForPage (w ∷ rest) ask) first asks))
 
+-- ---- a script
+
+-- one word behind `script`, or more than two
+pub no_turns : {A : Type 0} (f : A → List ℕ) (items : List A) → (length items ≡ 1) ⊎ (3 ≤ length items) → None ≡ turns_in (map f items)
+no_turns f [] (inl one) = absurd (omega (arith, one))
+no_turns f [] (inr many) = absurd (omega (arith, many))
+no_turns f (item ∷ []) some = refl
+no_turns f (item ∷ (other ∷ [])) (inl one) = absurd (omega (arith, one))
+no_turns f (item ∷ (other ∷ [])) (inr many) = absurd (omega (arith, many))
+no_turns f (item ∷ (other ∷ (more ∷ items))) some = refl
+
+turns_asked : (rest : List (List ℕ)) (turns : ℕ) → turns_in rest ≡ Some turns → AsksForScript (codes "script" ∷ rest) turns
+turns_asked [] turns is = let same : 1 ≡ turns = cc (is) in inl (refl, sym same)
+turns_asked (name ∷ []) turns is = absurd (cc (is))
+turns_asked (name ∷ (text ∷ [])) turns is = by (is_word name (codes "--turns")) refl is where
+  by : (b : Bool) → is_word name (codes "--turns") ≡ b → cond b (number_in 0 1000 text) None ≡ Some turns → AsksForScript (codes "script" ∷ (name ∷ (text ∷ []))) turns
+  by true same is = inr (text, ap (λ w. codes "script" ∷ (w ∷ (text ∷ []))) (same_word name (codes "--turns") same), is)
+  by false same is = absurd (cc (is))
+turns_asked (name ∷ (text ∷ (more ∷ rest))) turns is = absurd (cc (is))
+
+pub script_asked : (words : List (List ℕ)) (turns : ℕ) → script_in words ≡ Some turns → AsksForScript words turns
+script_asked [] turns is = absurd (cc (is))
+script_asked (word ∷ rest) turns is = by (is_word word (codes "script")) refl is where
+  by : (b : Bool) → is_word word (codes "script") ≡ b → cond b (turns_in rest) None ≡ Some turns → AsksForScript (word ∷ rest) turns
+  by true same is = subst (λ w. AsksForScript (w ∷ rest) turns) (sym (same_word word (codes "script") same)) (turns_asked rest turns is)
+  by false same is = absurd (cc (is))
+
+script_is_read : (words : List (List ℕ)) (turns : ℕ) → AsksForScript words turns → script_in words ≡ Some turns
+script_is_read words turns (inl one) = ap script_in one.0 ∙ ap (λ n. some_number n) (sym one.1)
+script_is_read words turns (inr many) = ap script_in many.1 ∙ many.2
+
 -- ---- nothing is asked for
 
-pub asks_nothing : (words : List (List ℕ)) → is_help words ≡ false → look_in words ≡ None → AskForNoLoad words → AskForNothing words
-asks_nothing words help shown none (command.Load load) asks = none load asks
-asks_nothing words help shown none (command.Show what) asks = cc (shown, look_is_read words what asks)
-asks_nothing words help shown none command.Help asks = cc (help, help_is_read words asks)
+pub asks_nothing : (words : List (List ℕ)) → is_help words ≡ false → look_in words ≡ None → script_in words ≡ None → AskForNoLoad words → AskForNothing words
+asks_nothing words help shown script none (command.Load load) asks = none load asks
+asks_nothing words help shown script none (command.Script turns) asks = cc (script, script_is_read words turns asks)
+asks_nothing words help shown script none (command.Show what) asks = cc (shown, look_is_read words what asks)
+asks_nothing words help shown script none command.Help asks = cc (help, help_is_read words asks)

@@ -16,7 +16,8 @@ use Rattle.bl_cli.specs.declared.status.Status.TheVariants as status
 use Rattle.bl_cli.specs.Printing.{Adds, AddsFront, Written}
 use Rattle.bl_cli.specs.Ends.{HasLine, IsCalm, IsCalmEnd, IsDone, IsNothing, IsQuiet, IsUnasked, MayHaveBegun}
 use Rattle.bl_cli.specs.LoadRuns.{IsUsedUp}
-use Rattle.bl_cli.specs.Runs.{Answers, FindsNoRoom, FindsNothing, HasReported, IsBegun, IsCarriedOut, IsEndOf, Keeps, OfWords, Reports}
+use Rattle.bl_cli.specs.Runs.{Answers, FindsNoRoom, FindsNothing, HasReported, HasScripted, IsBegun, IsCarriedOut, IsEndOf, IsScript, Keeps, OfWords, Reports}
+use Rattle.bl_cli.specs.ScriptRuns.{Input, Scripts}
 use Rattle.bl_cli.specs.Statuses.{line_of}
 use Rattle.bl_cli.specs.Stores.{OfFiles}
 use Rattle.bl_cli.specs.Commands.{AskForNothing, AsksFor}
@@ -26,10 +27,13 @@ quiet_or_begun : (it : Status) → HasLine it → IsQuiet it ⊎ MayHaveBegun it
 quiet_or_begun status.Ok has = absurd has
 quiet_or_begun status.JobNotCompleted has = absurd has
 quiet_or_begun status.Usage has = inl tt
+quiet_or_begun status.ReadFault has = inr tt
 quiet_or_begun status.WriteFault has = inr tt
 quiet_or_begun status.StoreFault has = inl tt
 quiet_or_begun (status.BadStore place) has = inl tt
 quiet_or_begun status.NoMemory has = inr tt
+quiet_or_begun status.InputTooLong has = inr tt
+quiet_or_begun status.TornInput has = inr tt
 quiet_or_begun status.JournalFull has = inl tt
 quiet_or_begun status.NumbersUsedUp has = inl tt
 quiet_or_begun status.UnknownLoad has = inl tt
@@ -40,13 +44,19 @@ pub has_reported : (err err' : Option (List ℕ)) (before now : ℕ) (it result 
 has_reported err err' before now it result (inl same) = inl (subst (λ s. Written err err' (Adds (line_of s))) (sym same.0) same.1)
 has_reported err err' before now it result (inr failed) = inr (failed.0, failed.1, (it, failed.3))
 
-module _ {D : Type 0} (of : Ghosts D) (files : Option Files) (salt : ℕ) (words : List (List ℕ)) (old new : Disks D) (before after : Option (List ℕ)) (was now : ℕ) (it result : Status) (err err' : Option (List ℕ)) (count count' : ℕ)
-    (answers : Answers of files salt words old new before after was now it) (reports : Reports err err' count count' it result) where
+module _ {D : Type 0} (of : Ghosts D) (files : Option Files) (salt : ℕ) (words : List (List ℕ)) (input : Input) (old new : Disks D) (before after : Option (List ℕ)) (was now : ℕ) (it result : Status) (err err' : Option (List ℕ)) (count count' : ℕ)
+    (answers : Answers of files salt words input old new before after was now it) (reports : Reports err err' count count' it result) where
   -- a word of statuses that a write fault hasn't
   by_status : (P : Status → Type 0) (Q : Type 0) → (P status.WriteFault → Q) → (P it → Q) → P result → Q
   by_status P Q faulted same holds =
       ⊎_elim (λ (is : (result ≡ it) × Written err err' (Adds (line_of it))). same (subst P is.0 holds))
       (λ (is : (result ≡ status.WriteFault) × Rose count count' × HasLine it × Written err err' (AddsFront (line_of it))). faulted (subst P is.0 holds)) reports
+
+  script_begun : (asked : Command) → IsScript asked → IsBegun of salt asked old new before after
+  script_begun (command.Load load) is = absurd is
+  script_begun (command.Script turns) is = tt
+  script_begun (command.Show what) is = absurd is
+  script_begun command.Help is = absurd is
 
   pub run_done : IsDone result → OfWords words (λ asked. IsCarriedOut of salt asked old new before after result)
   run_done done =
@@ -54,14 +64,27 @@ module _ {D : Type 0} (of : Ghosts D) (files : Option Files) (salt : ℕ) (words
       (λ (is : (result ≡ it) × Written err err' (Adds (line_of it))). subst (λ s. OfWords words (λ asked. IsCarriedOut of salt asked old new before after s)) (sym is.0) (answers.done (subst IsDone is.0 done)))
       (λ (is : (result ≡ status.WriteFault) × Rose count count' × HasLine it × Written err err' (AddsFront (line_of it))). absurd (subst IsDone is.0 done)) reports
 
+  -- of a script no more is said there
+  quiet_begun : (after ≡ before) ⊎ OfWords words IsScript → (after ≡ before) ⊎ OfWords words (λ asked. IsBegun of salt asked old new before after)
+  quiet_begun (inl same) = inl same
+  quiet_begun (inr asks) = inr (asks.0, asks.1, script_begun asks.0 asks.2)
+
   pub run_begun : MayHaveBegun result → (after ≡ before) ⊎ OfWords words (λ asked. IsBegun of salt asked old new before after)
   run_begun begun =
       ⊎_elim
       (λ (is : (result ≡ it) × Written err err' (Adds (line_of it))). answers.begun (subst MayHaveBegun is.0 begun))
-      (λ (is : (result ≡ status.WriteFault) × Rose count count' × HasLine it × Written err err' (AddsFront (line_of it))). ⊎_elim (λ quiet. inl (answers.quiet quiet)) answers.begun (quiet_or_begun it is.2)) reports
+      (λ (is : (result ≡ status.WriteFault) × Rose count count' × HasLine it × Written err err' (AddsFront (line_of it))). ⊎_elim (λ quiet. quiet_begun (answers.quiet quiet)) answers.begun (quiet_or_begun it is.2)) reports
 
-  pub run_quiet : IsQuiet result → after ≡ before
-  run_quiet quiet = by_status IsQuiet (after ≡ before) (λ none. absurd none) answers.quiet quiet
+  pub run_quiet : IsQuiet result → (after ≡ before) ⊎ OfWords words IsScript
+  run_quiet quiet = by_status IsQuiet ((after ≡ before) ⊎ OfWords words IsScript) (λ none. absurd none) answers.quiet quiet
+
+  pub run_script : (turns : ℕ) → AsksFor words (command.Script turns) → HasScripted of files salt turns input old new before after count count' result
+  run_script turns asks = (
+    it,
+    answers.script turns asks,
+    ⊎_elim (λ (is : (result ≡ it) × Written err err' (Adds (line_of it))). inl is.0)
+        (λ (is : (result ≡ status.WriteFault) × Rose count count' × HasLine it × Written err err' (AddsFront (line_of it))). inr (is.0, is.1)) reports,
+  )
 
   pub run_nothing : IsNothing result → OfWords words (λ asked. FindsNothing of asked old result)
   run_nothing nothing =
@@ -72,6 +95,7 @@ module _ {D : Type 0} (of : Ghosts D) (files : Option Files) (salt : ℕ) (words
   -- each command may end in a write fault
   faulted : (asked : Command) → IsEndOf asked status.WriteFault
   faulted (command.Load load) = tt
+  faulted (command.Script turns) = tt
   faulted (command.Show what) = tt
   faulted command.Help = tt
 
@@ -87,6 +111,9 @@ module _ {D : Type 0} (of : Ghosts D) (files : Option Files) (salt : ℕ) (words
   pub run_usage : result ≡ status.Usage → AskForNothing words
   run_usage is = by_status (λ s. s ≡ status.Usage) (AskForNothing words) (λ none. absurd (cc (none))) answers.usage is
 
+  pub run_read : result ≡ status.ReadFault → Rose input.was input.now
+  run_read is = by_status (λ s. s ≡ status.ReadFault) (Rose input.was input.now) (λ none. absurd (cc (none))) answers.read_fault is
+
   pub run_write : result ≡ status.WriteFault → Rose was now ⊎ Rose count count'
   run_write fault =
       ⊎_elim (λ (is : (result ≡ it) × Written err err' (Adds (line_of it))). inl (answers.write_fault (sym is.0 ∙ fault)))
@@ -95,8 +122,11 @@ module _ {D : Type 0} (of : Ghosts D) (files : Option Files) (salt : ℕ) (words
   pub run_store : result ≡ status.StoreFault → Rose (of.faults old.journal) (of.faults new.journal)
   run_store is = by_status (λ s. s ≡ status.StoreFault) (Rose (of.faults old.journal) (of.faults new.journal)) (λ none. absurd (cc (none))) answers.store_fault is
 
-  pub run_bad : (place : ℕ) → result ≡ status.BadStore place → IsTold of old.journal → Judges (of.seen old.journal) (Err place)
-  run_bad place is = by_status (λ s. s ≡ status.BadStore place) (IsTold of old.journal → Judges (of.seen old.journal) (Err place)) (λ none. absurd (cc (none))) (answers.bad_store place) is
+  abbrev FoundBad : ℕ → Type 0
+  FoundBad place = (IsTold of old.journal → Judges (of.seen old.journal) (Err place)) ⊎ (OfWords words IsScript × (¬ (IsLeft of old)))
+
+  pub run_bad : (place : ℕ) → result ≡ status.BadStore place → FoundBad place
+  run_bad place is = by_status (λ s. s ≡ status.BadStore place) (FoundBad place) (λ none. absurd (cc (none))) (answers.bad_store place) is
 
   pub run_full : result ≡ status.JournalFull → IsLeft of old → OfFiles files (λ told. OfWords words (λ asked. FindsNoRoom of told salt asked old new))
   run_full is =
@@ -107,32 +137,37 @@ module _ {D : Type 0} (of : Ghosts D) (files : Option Files) (salt : ℕ) (words
 
   -- a store that this program left is never bad
   never : NeverBad → ((c : List ℕ) → of.honest old.journal → of.seen old.journal ≡ Some c → of.may_leave old.journal c) → IsLeft of old → (place : ℕ) → ¬ (it ≡ status.BadStore place)
-  never law image left place is =
+  never law image left place is = ⊎_elim
+      (λ (judged : IsTold of old.journal → Judges (of.seen old.journal) (Err place)).
       let told = content_told (of.seen old.journal) left.sound.told in
       let has = left.each told.0 (image told.0 left.sound.honest told.1) in
-      law told.0 has.0 place has.1 (subst (λ seen. Judges seen (Err place)) told.1 (answers.bad_store place is (inl left.sound)))
+      law told.0 has.0 place has.1 (subst (λ seen. Judges seen (Err place)) told.1 (judged (inl left.sound))))
+      (λ (found : OfWords words IsScript × (¬ (IsLeft of old))). found.1 left) (answers.bad_store place is)
 
   calm_end : NeverBad → ((c : List ℕ) → of.honest old.journal → of.seen old.journal ≡ Some c → of.may_leave old.journal c) → IsLeft of old
-      → IsCalm (of.faults old.journal) (of.faults new.journal) was now count count' → (s : Status) → it ≡ s → IsCalmEnd s ⊎ AskForNothing words
+      → IsCalm (of.faults old.journal) (of.faults new.journal) input.was input.now was now count count' → (s : Status) → it ≡ s → IsCalmEnd s ⊎ AskForNothing words
   calm_end law image left calm status.Ok is = inl tt
   calm_end law image left calm status.JobNotCompleted is = inl tt
   calm_end law image left calm status.Usage is = inr (answers.usage is)
+  calm_end law image left calm status.ReadFault is = absurd (calm.input_calm (answers.read_fault is))
   calm_end law image left calm status.WriteFault is = absurd (calm.out_calm (answers.write_fault is))
   calm_end law image left calm status.StoreFault is = absurd (calm.disk_calm (answers.store_fault is))
   calm_end law image left calm (status.BadStore place) is = absurd (never law image left place is)
   calm_end law image left calm status.NoMemory is = inl tt
+  calm_end law image left calm status.InputTooLong is = inl tt
+  calm_end law image left calm status.TornInput is = inl tt
   calm_end law image left calm status.JournalFull is = inl tt
   calm_end law image left calm status.NumbersUsedUp is = inl tt
   calm_end law image left calm status.UnknownLoad is = inl tt
   calm_end law image left calm status.NoRecords is = inl tt
 
   pub run_complete : NeverBad → ((c : List ℕ) → of.honest old.journal → of.seen old.journal ≡ Some c → of.may_leave old.journal c) → IsLeft of old
-      → IsCalm (of.faults old.journal) (of.faults new.journal) was now count count' → IsCalmEnd result ⊎ AskForNothing words
+      → IsCalm (of.faults old.journal) (of.faults new.journal) input.was input.now was now count count' → IsCalmEnd result ⊎ AskForNothing words
   run_complete law image left calm =
       ⊎_elim (λ (is : (result ≡ it) × Written err err' (Adds (line_of it))). subst (λ s. IsCalmEnd s ⊎ AskForNothing words) (sym is.0) (calm_end law image left calm it refl))
       (λ (is : (result ≡ status.WriteFault) × Rose count count' × HasLine it × Written err err' (AddsFront (line_of it))). absurd (calm.err_calm is.1)) reports
 
-  pub run_unasked : AskForNothing words → IsCalm (of.faults old.journal) (of.faults new.journal) was now count count' → IsUnasked result
+  pub run_unasked : AskForNothing words → IsCalm (of.faults old.journal) (of.faults new.journal) input.was input.now was now count count' → IsUnasked result
   run_unasked nothing calm =
       ⊎_elim (λ (is : (result ≡ it) × Written err err' (Adds (line_of it))). subst IsUnasked (sym is.0) (answers.unasked nothing).0)
       (λ (is : (result ≡ status.WriteFault) × Rose count count' × HasLine it × Written err err' (AddsFront (line_of it))). absurd (calm.err_calm is.1)) reports

@@ -42,10 +42,13 @@ untold_is : (truth : Result (List ℕ) Status) (why : Status) → IsAnswer truth
 untold_is truth status.Ok is = absurd is
 untold_is truth status.JobNotCompleted is = absurd is
 untold_is truth status.Usage is = absurd is
+untold_is truth status.ReadFault is = absurd is
 untold_is truth status.WriteFault is = absurd is
 untold_is truth status.StoreFault is = record { undone = λ no. no; nothing = λ no. absurd no; ends = tt; no_write = λ e. cc }
 untold_is truth (status.BadStore place) is = record { undone = λ no. no; nothing = λ no. absurd no; ends = tt; no_write = λ e. cc }
 untold_is truth status.NoMemory is = record { undone = λ no. no; nothing = λ no. absurd no; ends = tt; no_write = λ e. cc }
+untold_is truth status.InputTooLong is = absurd is
+untold_is truth status.TornInput is = absurd is
 untold_is truth status.JournalFull is = absurd is
 untold_is truth status.NumbersUsedUp is = absurd is
 untold_is truth status.UnknownLoad is = record { undone = λ no. no; nothing = λ _. is; ends = tt; no_write = λ e. cc }

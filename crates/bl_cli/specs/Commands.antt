@@ -1,11 +1,11 @@
 -- The words of the command line.
-use Rattle.std.specs.Prelude.{◌≡◌, ◌≢◌, ◌≤◌, ◌==◌, ℕ, if◌then◌else◌, codes, List, [], ◌∷◌, Some, None, Result, Ok}
+use Rattle.std.specs.Prelude.{◌≡◌, ◌≢◌, ◌⊎◌, ◌≤◌, ◌==◌, ℕ, if◌then◌else◌, codes, List, [], ◌∷◌, Some, None, Result, Ok}
 use Rattle.std.specs.declared.option.Option.{Option}
 use Rattle.std.specs.List.{AllPairs, flat_map}
 use Rattle.bl_entry.specs.Valid.{IsRequest}
 use Rattle.bl_stream.specs.declared.page_ask.PageAsk.{PageAsk}
 use Rattle.bl_feed.specs.LoadBodies.{id_in}
-use Rattle.bl_feed.specs.Parameters.{page_asked}
+use Rattle.bl_feed.specs.Parameters.{number_in, page_asked}
 use Rattle.bl_feed.specs.declared.stream_parameter.StreamParameter.{StreamParameter}
 use Rattle.bl_feed.specs.declared.stream_parameter.StreamParameter.TheVariants.{Limit, IteratorType, CommitNum, OpNum}
 use Rattle.bl_cli.specs.declared.command.Look.{Look}
@@ -60,8 +60,15 @@ AsksToShow words look.Loads = words ≡ codes "status" ∷ []
 AsksToShow words (look.Load id) = (text : List ℕ) × (words ≡ codes "status" ∷ (text ∷ [])) × (id ≡ id_in text)
 AsksToShow words (look.Page ask) = AsksForPage words ask
 
+-- `script`, and how many turns are made behind each reply: one, or as many as are asked for
+abbrev pub AsksForScript : List (List ℕ) → ℕ → Type 0
+AsksForScript words turns =
+    ((words ≡ codes "script" ∷ []) × (turns ≡ 1))
+    ⊎ ((text : List ℕ) × (words ≡ codes "script" ∷ (codes "--turns" ∷ (text ∷ []))) × (number_in 0 1000 text ≡ Some turns))
+
 abbrev pub AsksFor : List (List ℕ) → Command → Type 0
 AsksFor words (command.Load load) = AsksForLoad words load
+AsksFor words (command.Script turns) = AsksForScript words turns
 AsksFor words (command.Show what) = AsksToShow words what
 AsksFor words command.Help = words ≡ codes "help" ∷ []
 
@@ -78,5 +85,6 @@ IsLook (look.Page ask) = (1 ≤ ask.limit) × (ask.limit ≤ 100000)
 
 abbrev pub IsCommand : Command → Type 0
 IsCommand (command.Load load) = IsRequest load.request × IsPlain load.request
+IsCommand (command.Script turns) = Unit {0}
 IsCommand (command.Show what) = IsLook what
 IsCommand command.Help = Unit {0}

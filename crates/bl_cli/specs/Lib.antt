@@ -14,4 +14,5 @@ pub mod Loads
 pub mod LoadRuns
 pub mod Shown
 pub mod Shows
+pub mod ScriptRuns
 pub mod Runs

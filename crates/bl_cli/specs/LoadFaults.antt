@@ -80,10 +80,13 @@ abbrev pub status_trouble : Status → Option Trouble
 status_trouble status.Ok = None
 status_trouble status.JobNotCompleted = None
 status_trouble status.Usage = None
+status_trouble status.ReadFault = None
 status_trouble status.WriteFault = None
 status_trouble status.StoreFault = Some trouble.StoreFault
 status_trouble (status.BadStore place) = Some (trouble.BadStore place)
 status_trouble status.NoMemory = Some trouble.NoMemory
+status_trouble status.InputTooLong = None
+status_trouble status.TornInput = None
 status_trouble status.JournalFull = None
 status_trouble status.NumbersUsedUp = None
 status_trouble status.UnknownLoad = None

@@ -3,7 +3,7 @@ use Rattle.std.specs.Prelude.{ℕ, Bool, true, false, ◌&&◌, not, is_some, if
 use Rattle.std.specs.declared.option.Option.{Option}
 use Rattle.bl_stream.specs.declared.page_ask.PageAsk.{PageAsk}
 use Rattle.bl_feed.specs.LoadBodies.{id_in}
-use Rattle.bl_feed.specs.Parameters.{page_asked}
+use Rattle.bl_feed.specs.Parameters.{number_in, page_asked}
 use Rattle.bl_feed.specs.declared.stream_parameter.StreamParameter.{StreamParameter}
 use Rattle.bl_feed.specs.declared.stream_parameter.StreamParameter.TheVariants.{Limit, IteratorType, CommitNum, OpNum}
 use Rattle.bl_cli.specs.declared.command.Look.{Look}
@@ -59,6 +59,20 @@ abbrev pub look_in : List (List ℕ) → Option Look
 look_in [] = None
 look_in (word ∷ rest) =
     if is_word word (codes "status") then status_in rest else if is_word word (codes "stream") then page_shown rest else None
+
+-- ---- how many turns a script makes behind each reply
+
+abbrev pub turns_in : List (List ℕ) → Option ℕ
+turns_in [] = Some 1
+turns_in (name ∷ []) = None
+turns_in (name ∷ (turns ∷ [])) = if is_word name (codes "--turns") then number_in 0 1000 turns else None
+turns_in (name ∷ (turns ∷ (more ∷ rest))) = None
+
+abbrev pub script_in : List (List ℕ) → Option ℕ
+script_in [] = None
+script_in (word ∷ rest) = if is_word word (codes "script") then turns_in rest else None
+
+-- ---- help
 
 abbrev pub is_help : List (List ℕ) → Bool
 is_help [] = false

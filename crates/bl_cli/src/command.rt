@@ -17,6 +17,8 @@ pub enum Look {
 #[derive(Debug, Drop)]
 pub enum Command {
     Load(Asked),
+    /// Requests of the input are answered, with up to so many turns of the loader behind each.
+    Script(u64),
     Show(Look),
     Help,
 }

@@ -2,12 +2,12 @@
 ghost use Rattle.std.specs.Prelude.{◌≡◌, map, string_bytes, IfOk, IfSome, MatchOption};
 ghost use Rattle.bl_feed.specs.LoadBodies.{id_in};
 ghost use Rattle.bl_cli.specs.Commands.{AskForNothing, AsksFor, IsCommand, IsLook};
-ghost use Rattle.bl_cli.specs.Reading.{is_help, look_in, page_shown, status_in};
+ghost use Rattle.bl_cli.specs.Reading.{is_help, look_in, page_shown, script_in, status_in, turns_in};
 
 use crate::command::{Command, Look};
 use crate::stream_words::page_in;
 use crate::words::{is_word, read_load};
-use bl_feed::read_id;
+use bl_feed::{read_id, read_number};
 use bl_outside::NoMemory;
 use std::alloc::Global;
 
@@ -59,6 +59,39 @@ fn look_in(words: &[String]) -> Option<Look>
     }
 }
 
+// How many turns `script` makes behind each reply, with these words behind it.
+fn turns_in(words: &[String]) -> Option<u64>
+    ensures { result ≡ turns_in (map string_bytes words.now) }
+{
+    match words {
+        [] => Some(1),
+        [name, turns] => {
+            if is_word(name.as_str(), "--turns") {
+                read_number(turns.as_bytes(), 0, 1000)
+            } else {
+                None
+            }
+        }
+        [_] | [_, _, _, ..] => None,
+    }
+}
+
+// The turns behind each reply of a script.
+fn script_in(words: &[String]) -> Option<u64>
+    ensures { result ≡ script_in (map string_bytes words.now) }
+{
+    match words {
+        [] => None,
+        [word, rest @ ..] => {
+            if is_word(word.as_str(), "script") {
+                turns_in(rest)
+            } else {
+                None
+            }
+        }
+    }
+}
+
 fn is_help(words: &[String]) -> bool
     ensures { result ≡ is_help (map string_bytes words.now) }
 {
@@ -80,6 +113,9 @@ pub fn read_words(alloc: Global, words: &[String]) -> Result<Option<Command>, No
     }
     if let Some(look) = look_in(words) {
         return Ok(Some(Command::Show(look)));
+    }
+    if let Some(turns) = script_in(words) {
+        return Ok(Some(Command::Script(turns)));
     }
     match read_load(alloc, words)? {
         Some(load) => Ok(Some(Command::Load(load))),

@@ -5,7 +5,7 @@
 //!
 //! Words of the contracts: `specs/Words` (the command line), `specs/Runs` (how a run ends),
 //! `specs/Stores` (what it makes of the store), `specs/Loads` (a load over an engine),
-//! `specs/Outputs` (what is printed), `specs/Printing` (text that is written in pieces). What turns
+//! `specs/ScriptRuns` (requests that are answered), `specs/Outputs` (what is printed), `specs/Printing` (text that is written in pieces). What turns
 //! of the loader do is said in `bl_load`, what loads come to in `bl_chain`.
 #![tactic(auto)]
 
@@ -20,6 +20,7 @@ mod loads;
 mod options;
 mod outputs;
 mod printing;
+mod scripts;
 mod shown;
 mod status;
 mod stream_words;

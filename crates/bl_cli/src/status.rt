@@ -16,6 +16,8 @@ pub enum Status {
     JobNotCompleted,
     /// The words are outside the grammar.
     Usage,
+    /// The input failed.
+    ReadFault,
     /// A sink failed.
     WriteFault,
     /// A disk of the store failed.
@@ -24,6 +26,10 @@ pub enum Status {
     BadStore(u64),
     /// Memory ran out.
     NoMemory,
+    /// 1 TiB was taken of the input.
+    InputTooLong,
+    /// The input ended inside a request.
+    TornInput,
     /// An entry has no room in the store's journal.
     JournalFull,
     /// The last number of a load was given.
@@ -43,10 +49,13 @@ impl Status {
             Status::Ok => 0,
             Status::JobNotCompleted => 1,
             Status::Usage => 2,
+            Status::ReadFault => 3,
             Status::WriteFault => 4,
             Status::StoreFault => 5,
             Status::BadStore(_) => 6,
             Status::NoMemory => 7,
+            Status::InputTooLong => 8,
+            Status::TornInput => 9,
             Status::JournalFull => 10,
             Status::NumbersUsedUp => 11,
             Status::UnknownLoad => 12,
@@ -62,10 +71,13 @@ impl Status {
         match self {
             Status::Ok | Status::JobNotCompleted => &[],
             Status::Usage => b"bl: usage: see help\n",
+            Status::ReadFault => b"bl: read fault\n",
             Status::WriteFault => b"bl: write fault\n",
             Status::StoreFault => b"bl: store fault\n",
             Status::BadStore(_) => b"bl: bad store at ",
             Status::NoMemory => b"bl: no memory\n",
+            Status::InputTooLong => b"bl: input too long\n",
+            Status::TornInput => b"bl: torn input\n",
             Status::JournalFull => b"bl: journal full\n",
             Status::NumbersUsedUp => b"bl: no load number is left\n",
             Status::UnknownLoad => b"bl: unknown load\n",

@@ -23,13 +23,16 @@ ghost use Rattle.bl_cli.specs.Runs.{
   FindsNoRoom,
   FindsNothing,
   HasReported,
+  HasScripted,
   IsBegun,
   IsCarriedOut,
   IsEndOf,
+  IsScript,
   Keeps,
   OfWords,
   Reports,
 };
+ghost use Rattle.bl_cli.specs.ScriptRuns.{ScriptRuns, input_of};
 ghost use Rattle.bl_cli.specs.Shows.{PrintsText, ShowRuns, ShowsOver};
 ghost use Rattle.bl_cli.specs.Stores.{OfFiles, RunsOver};
 ghost use Rattle.bl_cli.specs.Words.{IsPlain};
@@ -41,6 +44,7 @@ use crate::help::HELP;
 use crate::load_fault::LoadFault;
 use crate::loads::make_load;
 use crate::printing::print_load;
+use crate::scripts::script_over;
 use crate::shown::tell;
 use crate::status::Status;
 use bl_engine::{Engine, Trouble, left_files_are_never_bad};
@@ -208,8 +212,47 @@ fn show<D: Disk, O: Sink>(
     }
 }
 
+// Answers the requests of the input over a store.
+fn script<R: Threads + Sync, F: Folder, D: Disk, K: Clock, S: Source, O: Sink>(
+    rt: &R,
+    alloc: Global,
+    turns: u64,
+    folder: &mut F,
+    disks: Disks<D>,
+    clock: &mut K,
+    salt: u128,
+    input: &mut S,
+    out: &mut O,
+) -> (Status, Disks<D>)
+    ensures runs { ScriptRuns ⟦<D as Disk>⟧ (F.files folder.old) salt turns
+        (input_of (S.left input.old) (S.faults input.old) (S.faults input.new) (F.faults folder.old)) disks result.1 (O.written out.old)
+        (O.written out.new) (O.faults out.old) (O.faults out.new) result.0 }
+    ensures files { F.files folder.new ≡ F.files folder.old }
+{
+    left_files_are_never_bad();
+    match open_store(alloc, salt, disks) {
+        Err((trouble, disks)) => (LoadFault::from(trouble).status(), disks),
+        Ok(mut engine) => {
+            let status = script_over(
+                rt,
+                alloc,
+                turns,
+                &mut engine,
+                folder,
+                clock,
+                salt,
+                input,
+                out,
+            );
+            // The world of a ready engine is one of entries.
+            let _ = engine.is_ready();
+            (status, engine.into_disks())
+        }
+    }
+}
+
 // What the words ask for, without the line on the error output.
-fn answer<R: Threads + Sync, F: Folder, D: Disk, K: Clock, O: Sink>(
+fn answer<R: Threads + Sync, F: Folder, D: Disk, K: Clock, S: Source, O: Sink>(
     rt: &R,
     alloc: Global,
     words: &[String],
@@ -217,15 +260,20 @@ fn answer<R: Threads + Sync, F: Folder, D: Disk, K: Clock, O: Sink>(
     disks: Disks<D>,
     clock: &mut K,
     salt: u128,
+    input: &mut S,
     out: &mut O,
 ) -> (Status, Disks<D>)
     ensures answers { Answers ⟦<D as Disk>⟧ (F.files folder.old) salt (map string_bytes words.now)
-        disks result.1 (O.written out.old) (O.written out.new) (O.faults out.old)
+        (input_of (S.left input.old) (S.faults input.old) (S.faults input.new) (F.faults folder.old)) disks result.1 (O.written out.old) (O.written out.new) (O.faults out.old)
         (O.faults out.new) result.0 }
+    ensures input { (input.new ≡ input.old) ⊎ OfWords (map string_bytes words.now) IsScript }
     ensures files { F.files folder.new ≡ F.files folder.old }
 {
     match read_words(alloc, words) {
         Ok(Some(Command::Load(asked))) => load(rt, alloc, asked, folder, disks, clock, salt, out),
+        Ok(Some(Command::Script(turns))) => {
+            script(rt, alloc, turns, folder, disks, clock, salt, input, out)
+        }
         Ok(Some(Command::Show(look))) => show(alloc, look, disks, salt, out),
         Ok(Some(Command::Help)) => (print(HELP, out), disks),
         Ok(None) => (Status::Usage, disks),
@@ -260,7 +308,10 @@ fn put_line<E: Sink>(status: Status, err: &mut E) -> Status
 ///
 /// `load` opens the store, makes all turns that are unfinished, takes its load on, makes all turns
 /// of it, and prints what it came to. Load ids are made of the salt, with which texts are hashed
-/// too. `status` and `stream` open the store and print what it has, `help` prints a text. Status 2
+/// too. `script` opens the store, answers the requests of the input one after another, each reply
+/// written before more input is waited for, with turns behind each; behind the last one it makes
+/// all turns that are left. `status` and `stream` open the store and print what it has, `help`
+/// prints a text. Status 2
 /// and above write their line on the error output. The runtime is for the threads that convert
 /// records.
 pub fn run<R: Threads + Sync, F: Folder, D: Disk, K: Clock, S: Source, O: Sink, E: Sink>(
@@ -283,11 +334,22 @@ pub fn run<R: Threads + Sync, F: Folder, D: Disk, K: Clock, S: Source, O: Sink, 
         (O.written out.new) result.0) }
 
     // Where a sink failed or memory ran out the output is a front of what it was to be, or nothing
-    // was written. With every other status nothing was.
+    // was written. With every other status nothing was, but by a script.
     ensures begun { MayHaveBegun result.0 → (O.written out.new ≡ O.written out.old)
         ⊎ OfWords (map string_bytes words.now) (λ asked. IsBegun ⟦<D as Disk>⟧ salt asked disks
         result.1 (O.written out.old) (O.written out.new)) }
-    ensures quiet { IsQuiet result.0 → O.written out.new ≡ O.written out.old }
+    ensures quiet { IsQuiet result.0 → (O.written out.new ≡ O.written out.old)
+        ⊎ OfWords (map string_bytes words.now) IsScript }
+
+    // A script, by whatever status: over the engine that the opening made the requests of the input
+    // were answered, in order, each by its reply whole or the last one by a front of it, with turns
+    // behind each as they were asked for; each reply and turn is the one of its definition in the
+    // world that it finds. A torn input, one that is too long and each fault end it where it stands;
+    // else turns are made to the end, and the status tells of the first turn that was refused.
+    ensures script { (turns : _) → AsksFor (map string_bytes words.now) (Command.Script turns)
+        → HasScripted ⟦<D as Disk>⟧ (F.files folder.old) salt turns
+        (input_of (S.left input.old) (S.faults input.old) (S.faults input.new) (F.faults folder.old)) disks result.1 (O.written out.old)
+        (O.written out.new) (E.faults err.old) (E.faults err.new) result.0 }
 
     // UnknownLoad and NoRecords: the world that was found has no load of the id, or no event where
     // the page is to begin.
@@ -304,18 +366,23 @@ pub fn run<R: Threads + Sync, F: Folder, D: Disk, K: Clock, S: Source, O: Sink, 
     ensures usage { result.0 ≡ Status.Usage → AskForNothing (map string_bytes words.now) }
 
     // A fault only where a count rose.
+    ensures read_fault { result.0 ≡ Status.ReadFault
+        → Rose (S.faults input.old) (S.faults input.new) }
     ensures write_fault { result.0 ≡ Status.WriteFault → Rose (O.faults out.old) (O.faults out.new)
         ⊎ Rose (E.faults err.old) (E.faults err.new) }
     ensures store_fault { result.0 ≡ Status.StoreFault
         → Rose (D.faults disks.journal) (D.faults result.1.journal) }
 
-    // A bad store exactly as the opening found it, at its place; and the last number of a load.
+    // A bad store exactly as the opening found it, at its place, or a turn of a script, over a store
+    // that this program hasn't left; and the last number of a load.
     ensures bad_store { (place : _) → result.0 ≡ Status.BadStore place
-        → IsTold ⟦<D as Disk>⟧ disks.journal → Judges (D.seen disks.journal) (Err place) }
+        → (IsTold ⟦<D as Disk>⟧ disks.journal → Judges (D.seen disks.journal) (Err place))
+        ⊎ (OfWords (map string_bytes words.now) IsScript × (¬ (IsLeft ⟦<D as Disk>⟧ disks))) }
     ensures used_up { result.0 ≡ Status.NumbersUsedUp → IsUsedUp ⟦<D as Disk>⟧ disks }
 
     // A full journal: behind entries that were appended, the next one, of a turn or of the load
-    // itself, doesn't fit behind the gate at which the journal ends.
+    // itself, doesn't fit behind the gate at which the journal ends. For a script `script` says it
+    // of the turn that was refused.
     ensures full { result.0 ≡ Status.JournalFull → IsLeft ⟦<D as Disk>⟧ disks
         → OfFiles (F.files folder.old) (λ files. OfWords (map string_bytes words.now) (λ asked.
         FindsNoRoom ⟦<D as Disk>⟧ files salt asked disks result.1)) }
@@ -330,12 +397,14 @@ pub fn run<R: Threads + Sync, F: Folder, D: Disk, K: Clock, S: Source, O: Sink, 
 
     // Over such a store, where no count rose, the command was done, or the answer has another cause.
     ensures complete { IsLeft ⟦<D as Disk>⟧ disks
-        → IsCalm (D.faults disks.journal) (D.faults result.1.journal) (O.faults out.old)
-        (O.faults out.new) (E.faults err.old) (E.faults err.new)
+        → IsCalm (D.faults disks.journal) (D.faults result.1.journal) (S.faults input.old)
+        (S.faults input.new) (O.faults out.old) (O.faults out.new) (E.faults err.old)
+        (E.faults err.new)
         → IsCalmEnd result.0 ⊎ AskForNothing (map string_bytes words.now) }
     ensures unasked { AskForNothing (map string_bytes words.now)
-        → IsCalm (D.faults disks.journal) (D.faults result.1.journal) (O.faults out.old)
-        (O.faults out.new) (E.faults err.old) (E.faults err.new)
+        → IsCalm (D.faults disks.journal) (D.faults result.1.journal) (S.faults input.old)
+        (S.faults input.new) (O.faults out.old) (O.faults out.new) (E.faults err.old)
+        (E.faults err.new)
         → IsUnasked result.0 }
 
     // The line of the status, whole, or a front of a line where the error output failed. What is
@@ -343,11 +412,12 @@ pub fn run<R: Threads + Sync, F: Folder, D: Disk, K: Clock, S: Source, O: Sink, 
     ensures line { HasReported (E.written err.old) (E.written err.new) (E.faults err.old)
         (E.faults err.new) result.0 }
     ensures slots { (result.1.left ≡ disks.left) × (result.1.right ≡ disks.right) }
-    ensures input { input.new ≡ input.old }
+    ensures input { (input.new ≡ input.old) ⊎ OfWords (map string_bytes words.now) IsScript }
     ensures files { F.files folder.new ≡ F.files folder.old }
 {
-    let _ = input;
     left_files_are_never_bad();
-    let (status, disks) = answer(runtime, alloc, words, folder, disks, clock, salt, out);
+    let (status, disks) = answer(
+        runtime, alloc, words, folder, disks, clock, salt, input, out,
+    );
     (report(status, err), disks)
 }

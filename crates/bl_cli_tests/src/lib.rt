@@ -3,11 +3,15 @@
 #![tactic(auto)]
 
 #[cfg(test)]
+mod clock_tests;
+#[cfg(test)]
 mod fault_tests;
 #[cfg(test)]
 mod resume_tests;
 #[cfg(test)]
 mod run_tests;
+#[cfg(test)]
+mod script_tests;
 #[cfg(test)]
 mod show_tests;
 #[cfg(test)]

@@ -98,11 +98,12 @@ fn written<R: Abort>(rt: &R, alloc: Global, sink: &MemorySink) -> Text {
 
 // ---- a machine
 
-// A folder and a store, and what the last run wrote.
+// A folder and a store, the input of the next run, and what the last one wrote.
 #[derive(Drop)]
 pub(crate) struct Machine {
     pub(crate) folder: MemoryFolder,
     pub(crate) disks: Disks<MemoryDisk>,
+    pub(crate) input: Text,
     pub(crate) out: Text,
     pub(crate) err: Text,
 }
@@ -116,6 +117,7 @@ pub(crate) fn machine_with(
     Machine {
         folder,
         disks,
+        input: Text::new(alloc),
         out: Text::new(alloc),
         err: Text::new(alloc),
     }
@@ -131,11 +133,16 @@ pub(crate) fn new_machine<R: Abort>(rt: &R, alloc: Global, files: FileTable) -> 
 // Which call of a stream fails, by its number, and none where it is 0.
 #[derive(Clone, Copy)]
 pub(crate) struct Failing {
+    pub(crate) input: u64,
     pub(crate) out: u64,
     pub(crate) err: u64,
 }
 
-pub(crate) const NOTHING: Failing = Failing { out: 0, err: 0 };
+pub(crate) const NOTHING: Failing = Failing {
+    input: 0,
+    out: 0,
+    err: 0,
+};
 
 struct Outcome {
     status: Status,
@@ -150,9 +157,10 @@ fn run_over<R: Threads + Sync + Abort>(
     words: &[String],
     folder: &mut MemoryFolder,
     disks: Disks<MemoryDisk>,
+    input: Text,
     fails: Failing,
 ) -> Outcome {
-    let mut input = MemorySource::new(Text::new(alloc), 1, Faults::none(alloc));
+    let mut input = MemorySource::new(input, 50, faults_at(rt, alloc, fails.input));
     let mut out = sink(rt, alloc, fails.out);
     let mut err = sink(rt, alloc, fails.err);
     let mut clock = FixedClock::new(0);
@@ -179,12 +187,13 @@ impl Machine {
         let words = words_of(rt, alloc, words);
         let empty = store(rt, alloc, b"", Faults::none(alloc));
         let disks = mem::replace(&mut self.disks, empty);
+        let input = mem::replace(&mut self.input, Text::new(alloc));
         let Outcome {
             status,
             out,
             err,
             disks,
-        } = run_over(rt, alloc, &words, &mut self.folder, disks, fails);
+        } = run_over(rt, alloc, &words, &mut self.folder, disks, input, fails);
         self.disks = disks;
         self.out = out;
         self.err = err;

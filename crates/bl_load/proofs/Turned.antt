@@ -42,7 +42,7 @@ use Rattle.bl_load.specs.Committing.{In, IsNothing, PreparedEntry}
 use Rattle.bl_load.specs.Prepares.{MayCommit, Prepares, is_fault}
 use Rattle.bl_load.specs.SameJobs.{HasSameJobs}
 use Rattle.bl_load.specs.TurnFaults.{fault_from, fault_outcome, told_trouble, trouble_of}
-use Rattle.bl_load.specs.Turns.{CountsUp, DrainsOver, IsOfFault, IsOneMore, MayTurn, TurnsBy, TurnsTo}
+use Rattle.bl_load.specs.Turns.{CountsUp, DrainsAnyhow, DrainsOver, IsOfFault, IsOneMore, MayTurn, TurnsBy, TurnsTo}
 use Rattle.bl_load.proofs.Committed.{not_idle, nothing_or, tells_made}
 use Rattle.bl_load.proofs.PreparedTurns.{prepared_are_made, prepared_are_turns}
 use Rattle.bl_load.proofs.SameJobs.{same_jobs}
@@ -207,6 +207,15 @@ module _ {D : Type 0} (of : Ghosts D) (next : Work) (prepared : Prepared) (now :
         (λ some. drains_attempted of only (IsMade (AreTablesOf files)) old new (fault_outcome r)
         (attempts_more of (Told r) (IsMade (AreTablesOf files)) old new (fault_outcome r) (is_made r) (attempts_after of (Told r) old mid new looks ready (fault_outcome r) (attempts some))) s stays)
         (nothing_or prepared)
+
+  -- whatever was prepared
+  pub drains_anyhow : (only : (disk : D) (c : List ℕ) → of.left_since disk (of.moment disk) c → of.may_leave disk c) (r : Result Turned TurnFault) → (¬ (IsNothing prepared) → Attempts of (Told r) mid new (fault_outcome r)) → (IsNothing prepared → new ≡ mid)
+      → (s : State) → Stays of old s → DrainsAnyhow of old new s
+  drains_anyhow only r attempts same s stays = ⊎_elim
+      (λ none. subst (λ v. DrainsAnyhow of old v s) (sym (same none)) (drains_looked of only (λ world entry. Unit {0}) old mid None looks s stays))
+      (λ some. drains_attempted of only (λ world entry. Unit {0}) old new (fault_outcome r)
+      (attempts_more of (Told r) (λ world entry. Unit {0}) old new (fault_outcome r) (λ world entry made. tt) (attempts_after of (Told r) old mid new looks ready (fault_outcome r) (attempts some))) s stays)
+      (nothing_or prepared)
 
   -- ---- the engine
 

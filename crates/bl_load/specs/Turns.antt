@@ -46,6 +46,10 @@ TurnsTo of files now old new state (Ended status) = Commits of (TurnsBy files no
 abbrev pub DrainsOver : {D : Type 0} → Ghosts D → Files → View D → View D → State → Type 0
 DrainsOver of files old new state = Drains of (IsMade (AreTablesOf files)) old new state
 
+-- The same over whatever files, told or not: each entry that it appends may follow.
+abbrev pub DrainsAnyhow : {D : Type 0} → Ghosts D → View D → View D → State → Type 0
+DrainsAnyhow of old new state = Drains of (λ world entry. Unit {0}) old new state
+
 -- ---- an entry for which there is no room
 
 -- it tells that the folder failed

@@ -17,6 +17,7 @@ ghost use Rattle.bl_load.specs.Tasks.{IsTask};
 ghost use Rattle.bl_load.specs.TurnFaults.{IsNotStale, fault_of, fault_outcome, trouble_of};
 ghost use Rattle.bl_load.specs.Turns.{
   CountsUp,
+  DrainsAnyhow,
   DrainsFull,
   DrainsOver,
   IsDrained,
@@ -95,6 +96,8 @@ fn commit_next<D: Disk, K: Clock>(
 /// - whatever happens, it appends an entry that is made over the files, or nothing;
 /// - the journal is full just where the entry of this turn doesn't fit into it;
 /// - a crash at any moment leaves loads that come to what one uninterrupted load comes to.
+///
+/// Over whatever files a crash at any moment leaves the entries that stood, or an entry more.
 pub fn turn<R: Threads + Sync, F: Folder, D: Disk, K: Clock, G: Gate>(
     rt: &R,
     alloc: Global,
@@ -111,6 +114,8 @@ pub fn turn<R: Threads + Sync, F: Folder, D: Disk, K: Clock, G: Gate>(
     ensures made { (files : Files) → F.files folder.old ≡ Some files → IsFresh files held.old
         → (state : State) → Stays ⟦<D as Disk>⟧ engine.old state
         → DrainsOver ⟦<D as Disk>⟧ files engine.old engine.new state }
+    ensures anyhow { (state : State) → Stays ⟦<D as Disk>⟧ engine.old state
+        → DrainsAnyhow ⟦<D as Disk>⟧ engine.old engine.new state }
     ensures resumes { (files : Files) → F.files folder.old ≡ Some files → IsFresh files held.old
         → (state : State) → Stays ⟦<D as Disk>⟧ engine.old state
         → ResumesTo ⟦<D as Disk>⟧ files engine.old engine.new state }
@@ -146,6 +151,8 @@ pub fn drain<R: Threads + Sync, F: Folder, D: Disk, K: Clock, G: Gate>(
     ensures made { (files : Files) → F.files folder.old ≡ Some files → IsFresh files held.old
         → (state : State) → Stays ⟦<D as Disk>⟧ engine.old state
         → DrainsOver ⟦<D as Disk>⟧ files engine.old engine.new state }
+    ensures anyhow { (state : State) → Stays ⟦<D as Disk>⟧ engine.old state
+        → DrainsAnyhow ⟦<D as Disk>⟧ engine.old engine.new state }
     ensures resumes { (files : Files) → F.files folder.old ≡ Some files → IsFresh files held.old
         → (state : State) → Stays ⟦<D as Disk>⟧ engine.old state
         → ResumesTo ⟦<D as Disk>⟧ files engine.old engine.new state }

@@ -31,6 +31,8 @@ impl<'a, D: Disk, K: Clock> Desk for EngineDesk<'a, D, K> {
     ghost use Rattle.bl_session.specs.Answers.{Answered};
 
     ghost answers = { λ old request reply new. (new.salt ≡ old.salt)
+        × (new.engine.ghost_name ≡ old.engine.ghost_name)
+        × (new.clock.ghost_name ≡ old.clock.ghost_name)
         × Answered ⟦<D as Disk>⟧ old.salt (K.last new.clock.now) request old.engine.now
         new.engine.now reply };
 

@@ -1,6 +1,7 @@
 // Steps of a session.
 ghost use Rattle.std.specs.Prelude.{◌≡◌, ◌≤◌, IsErrOf};
 ghost use Rattle.bl_outside.specs.Counts.{Rose};
+ghost use Rattle.bl_http.specs.Buffers.{IsWithin};
 ghost use Rattle.bl_session.specs.Steps.{ActsOn, Refuses, Replies, StepIs};
 
 use crate::desk::Desk;
@@ -88,6 +89,7 @@ pub fn step_over<S: Source, O: Sink, P: Desk>(
 ) -> Result<Step, SessionFault>
     ensures step { StepIs P.answers (S.left source.old) (S.left source.new) buffer.old buffer.new
         desk.old desk.new (O.written sink.old) (O.written sink.new) result }
+    ensures within { IsWithin buffer.new }
     ensures reads_on { S.faults source.old ≤ S.faults source.new }
     ensures writes_on { O.faults sink.old ≤ O.faults sink.new }
     ensures read_fault { IsErrOf result SessionFault.ReadFault

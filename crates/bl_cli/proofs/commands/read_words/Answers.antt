@@ -2,7 +2,7 @@ use Rattle.std.proofs.Common.{map, subst, sym}
 use Rattle.std.specs.Prelude.{MatchOption}
 use Rattle.std.specs.String.{string_bytes}
 use Rattle.bl_cli.specs.Words.{AskForNoLoad, AsksForLoad}
-use Rattle.bl_cli.proofs.ReadCommands.{asks_nothing, look_asked}
+use Rattle.bl_cli.proofs.ReadCommands.{asks_nothing, look_asked, script_asked}
 use Rattle.bl_cli.proofs.commands.read_words.Goals as goal
 
 pub returns-in-Some-clause-asked : goal.returns-in-Some-clause-asked

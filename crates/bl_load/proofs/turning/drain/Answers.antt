@@ -14,6 +14,7 @@ use Rattle.bl_load.proofs.turning.drain.Goals as goal
 pub loop-init : goal.loop-init
 loop-init g c = record {
   made = λ files told fresh state stays. drains_none g.D.Disk (IsMade (AreTablesOf files)) g.met.D.Disk.only_now c.args.engine.now state stays;
+  anyhow = λ state stays. drains_none g.D.Disk (λ world entry. Unit {0}) g.met.D.Disk.only_now c.args.engine.now state stays;
   fresh = λ files told fresh. fresh;
   files = refl;
   later = omega arith;
@@ -29,6 +30,9 @@ loop-preserved g c =
       made = λ files told fresh state stays.
           let d = was.made files told fresh state stays in
           drains_then (IsMade (AreTablesOf files)) g.D.Disk c.args.engine.now c.loop.engine c.turn.new.engine state d (c.turn.ensures.made files (was.files ∙ told) (was.fresh files told fresh) d.to d.stays);
+      anyhow = λ state stays.
+          let d = was.anyhow state stays in
+          drains_then (λ world entry. Unit {0}) g.D.Disk c.args.engine.now c.loop.engine c.turn.new.engine state d (c.turn.ensures.anyhow d.to d.stays);
       fresh = λ files told fresh. c.turn.ensures.fresh files (was.files ∙ told) (was.fresh files told fresh);
       files = c.turn.ensures.files ∙ was.files;
       later = omega (arith, was.later, c.turn.ensures.later);
@@ -44,6 +48,11 @@ returns-in_err-turn-clause-made g c = λ files told fresh state stays.
     let was = c.loop.invariant in
     let d = was.made files told fresh state stays in
     drains_then (IsMade (AreTablesOf files)) g.D.Disk c.args.engine.now c.loop.engine c.turn.new.engine state d (c.turn.ensures.made files (was.files ∙ told) (was.fresh files told fresh) d.to d.stays)
+
+pub returns-in_err-turn-clause-anyhow : goal.returns-in_err-turn-clause-anyhow
+returns-in_err-turn-clause-anyhow g c = λ state stays.
+    let d = c.loop.invariant.anyhow state stays in
+    drains_then (λ world entry. Unit {0}) g.D.Disk c.args.engine.now c.loop.engine c.turn.new.engine state d (c.turn.ensures.anyhow d.to d.stays)
 
 pub returns-in_err-turn-clause-resumes : goal.returns-in_err-turn-clause-resumes
 returns-in_err-turn-clause-resumes g c = λ files told fresh state stays.
@@ -70,6 +79,11 @@ returns-clause-made g c = λ files told fresh state stays.
     let was = c.loop.invariant in
     let d = was.made files told fresh state stays in
     drains_then (IsMade (AreTablesOf files)) g.D.Disk c.args.engine.now c.loop.engine c.turn.new.engine state d (c.turn.ensures.made files (was.files ∙ told) (was.fresh files told fresh) d.to d.stays)
+
+pub returns-clause-anyhow : goal.returns-clause-anyhow
+returns-clause-anyhow g c = λ state stays.
+    let d = c.loop.invariant.anyhow state stays in
+    drains_then (λ world entry. Unit {0}) g.D.Disk c.args.engine.now c.loop.engine c.turn.new.engine state d (c.turn.ensures.anyhow d.to d.stays)
 
 pub returns-clause-resumes : goal.returns-clause-resumes
 returns-clause-resumes g c = λ files told fresh state stays.

@@ -5,7 +5,7 @@ use Rattle.bl_engine.specs.Calls.{Handles}
 use Rattle.bl_engine.specs.Engines.{Stays}
 use Rattle.bl_load.specs.OpenFiles.{IsFresh}
 use Rattle.bl_load.specs.SameJobs.{HasSameJobs}
-use Rattle.bl_load.specs.Turns.{DrainsOver}
+use Rattle.bl_load.specs.Turns.{DrainsAnyhow, DrainsOver}
 use Rattle.bl_load.proofs.Drains.{IsBegun, turns_left}
 use Rattle.bl_load.proofs.turning.drain.Given as goal
 
@@ -13,6 +13,7 @@ use Rattle.bl_load.proofs.turning.drain.Given as goal
 abbrev pub invariant-loop : goal.invariant-loop
 invariant-loop g l = record {
   made : (files : Files) → g.F.Folder.files l.initial.folder ≡ Some files → IsFresh files l.initial.held → (state : State) → Stays g.D.Disk l.initial.engine state → DrainsOver g.D.Disk files l.initial.engine l.engine state;
+  anyhow : (state : State) → Stays g.D.Disk l.initial.engine state → DrainsAnyhow g.D.Disk l.initial.engine l.engine state;
   fresh : (files : Files) → g.F.Folder.files l.initial.folder ≡ Some files → IsFresh files l.initial.held → IsFresh files l.held;
   files : g.F.Folder.files l.folder ≡ g.F.Folder.files l.initial.folder;
   later : g.F.Folder.faults l.initial.folder ≤ g.F.Folder.faults l.folder;

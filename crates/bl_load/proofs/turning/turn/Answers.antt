@@ -5,7 +5,7 @@ use Rattle.bl_load.specs.Prepares.{Prepares, is_fault}
 use Rattle.bl_load.specs.TurnFaults.{trouble_of}
 use Rattle.bl_engine.proofs.Composed.{handles_after}
 use Rattle.bl_load.proofs.ResumedLoads.{resumes_to}
-use Rattle.bl_load.proofs.Turned.{counts_up, drains_looked, drains_over, entries_at, has_no_room, keeps_jobs, next_is, no_fault, turns_to}
+use Rattle.bl_load.proofs.Turned.{counts_up, drains_anyhow, drains_looked, drains_over, entries_at, has_no_room, keeps_jobs, next_is, no_fault, turns_to}
 use Rattle.bl_load.proofs.turning.turn.Goals as goal
 
 -- ---- the engine could not be opened, or nothing could be prepared
@@ -13,6 +13,10 @@ use Rattle.bl_load.proofs.turning.turn.Goals as goal
 pub returns-in_err-task-clause-made : goal.returns-in_err-task-clause-made
 returns-in_err-task-clause-made g c = λ files told fresh s stays.
     drains_looked g.D.Disk g.met.D.Disk.only_now (IsMade (AreTablesOf files)) c.args.engine.now c.next_task.new.engine _ c.in_err-task.ensures.looks s stays
+
+pub returns-in_err-task-clause-anyhow : goal.returns-in_err-task-clause-anyhow
+returns-in_err-task-clause-anyhow g c = λ s stays.
+    drains_looked g.D.Disk g.met.D.Disk.only_now (λ world entry. Unit {0}) c.args.engine.now c.next_task.new.engine _ c.in_err-task.ensures.looks s stays
 
 pub returns-in_err-task-clause-resumes : goal.returns-in_err-task-clause-resumes
 returns-in_err-task-clause-resumes g c = λ files told fresh s stays.
@@ -22,6 +26,10 @@ returns-in_err-task-clause-resumes g c = λ files told fresh s stays.
 pub returns-in_err-prepared-clause-made : goal.returns-in_err-prepared-clause-made
 returns-in_err-prepared-clause-made g c = λ files told fresh s stays.
     drains_looked g.D.Disk g.met.D.Disk.only_now (IsMade (AreTablesOf files)) c.args.engine.now c.next_task.new.engine None c.in_ok-task.ensures.looks s stays
+
+pub returns-in_err-prepared-clause-anyhow : goal.returns-in_err-prepared-clause-anyhow
+returns-in_err-prepared-clause-anyhow g c = λ s stays.
+    drains_looked g.D.Disk g.met.D.Disk.only_now (λ world entry. Unit {0}) c.args.engine.now c.next_task.new.engine None c.in_ok-task.ensures.looks s stays
 
 pub returns-in_err-prepared-clause-resumes : goal.returns-in_err-prepared-clause-resumes
 returns-in_err-prepared-clause-resumes g c = λ files told fresh s stays.
@@ -45,6 +53,12 @@ returns-clause-made g c = λ files told fresh s stays.
     drains_over g.D.Disk c.in_ok-task.task.work c.in_ok-prepared.prepared (g.K.Clock.last c.commit_next.new.clock) c.args.engine.now c.next_task.new.engine c.commit_next.new.engine task.looks task.ready
     (next_is c.next_task.new.engine.world.kept.jobs c.in_ok-task.task task.task) files e.0 e.1 e.2 (subst (λ t. Prepares files t c.in_ok-prepared.prepared) task.task (c.in_ok-prepared.ensures.prepares files told fresh))
     g.met.D.Disk.only_now c.commit_next.result c.commit_next.ensures.attempts c.commit_next.ensures.same s stays
+
+pub returns-clause-anyhow : goal.returns-clause-anyhow
+returns-clause-anyhow g c = λ s stays.
+    let task = c.in_ok-task.ensures in
+    drains_anyhow g.D.Disk c.in_ok-task.task.work c.in_ok-prepared.prepared (g.K.Clock.last c.commit_next.new.clock) c.args.engine.now c.next_task.new.engine c.commit_next.new.engine task.looks task.ready
+    (next_is c.next_task.new.engine.world.kept.jobs c.in_ok-task.task task.task) g.met.D.Disk.only_now c.commit_next.result c.commit_next.ensures.attempts c.commit_next.ensures.same s stays
 
 pub returns-clause-resumes : goal.returns-clause-resumes
 returns-clause-resumes g c = λ files told fresh s stays.

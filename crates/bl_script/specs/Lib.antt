@@ -1,0 +1,5 @@
+pub mod KeptStores
+pub mod Turns
+pub mod Rounds
+pub mod Scripts
+pub mod PlayedRounds
