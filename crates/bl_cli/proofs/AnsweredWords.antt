@@ -1,7 +1,7 @@
 -- What words come to.
-use Rattle.std.specs.Prelude.{◌≡◌, ◌⊎◌, ℕ, List, None, Some, refl}
+use Rattle.std.specs.Prelude.{◌≡◌, ℕ, List, refl}
 use Rattle.std.specs.declared.option.Option.{Option}
-use Rattle.std.proofs.Common.{inl, inr, ⊎_elim, sym, ap, subst, ◌∙◌}
+use Rattle.std.proofs.Common.{inl, inr, ⊎_elim, sym, subst}
 use Rattle.bl_outside.specs.Counts.{Rose}
 use Rattle.bl_outside.specs.Folders.{Files}
 use Rattle.bl_outside.specs.declared.disk.Disk.{Ghosts}
@@ -17,15 +17,14 @@ use Rattle.bl_cli.specs.declared.command.Command.TheVariants as command
 use Rattle.bl_cli.specs.declared.command.Look.{Look}
 use Rattle.bl_cli.specs.declared.status.Status.{Status}
 use Rattle.bl_cli.specs.declared.status.Status.TheVariants as status
-use Rattle.bl_cli.specs.Commands.{AskForNothing, AsksFor, AsksToShow}
-use Rattle.bl_cli.specs.Ends.{IsDone, IsNothing, IsOfLoad, IsOfScript, IsOfShow, IsStatusOf}
+use Rattle.bl_cli.specs.Commands.{AskForNothing, AsksFor}
+use Rattle.bl_cli.specs.Ends.{IsDone, IsNothing, IsOfLoad, IsOfScript, IsOfShow}
 use Rattle.bl_cli.specs.LoadRuns.{HasNoPlace, LoadRuns, PrintsJob}
 use Rattle.bl_cli.specs.Printing.{Adds, AddsFront, Written}
 use Rattle.bl_cli.specs.Runs.{Answers, FindsNoRoom, IsEndOf, Keeps, OfWords}
 use Rattle.bl_cli.specs.ScriptRuns.{Input, ScriptRuns, Scripts}
-use Rattle.bl_cli.specs.Shows.{HasNothing, PrintsShown, PrintsText, ShowRuns}
-use Rattle.bl_cli.specs.Stores.{IsUntouched, OfFiles, RunsOver}
-use Rattle.bl_cli.specs.Words.{AsksForLoad}
+use Rattle.bl_cli.specs.Shows.{PrintsShown, PrintsText, ShowRuns}
+use Rattle.bl_cli.specs.Stores.{IsUntouched, RunsOver}
 use Rattle.bl_cli.proofs.Apart.{help_alone, help_no_script, load_alone, load_no_script, same_turns, script_alone, show_alone, show_no_script}
 use Rattle.bl_cli.proofs.MadeLoads.{of_files, told_files}
 

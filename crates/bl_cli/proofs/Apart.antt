@@ -1,7 +1,7 @@
 -- Words ask for one kind of command.
-use Rattle.std.specs.Prelude.{◌≡◌, ℕ, codes, List, [], ◌∷◌, ◌++◌, Some, refl}
+use Rattle.std.specs.Prelude.{◌≡◌, ℕ, codes, List, [], ◌∷◌, Some, refl}
 use Rattle.std.specs.declared.option.Option.{Option}
-use Rattle.std.proofs.Common.{inl, inr, sym, ap, ◌∙◌}
+use Rattle.std.proofs.Common.{arith, inl, inr, sym, ap, ◌∙◌}
 use Rattle.bl_feed.specs.Parameters.{number_in}
 use Rattle.bl_outside.specs.Sound.{IsSound}
 use Rattle.bl_outside.specs.declared.disk.Disk.{Ghosts}
@@ -12,11 +12,10 @@ use Rattle.bl_cli.specs.declared.command.Command.TheVariants as command
 use Rattle.bl_cli.specs.declared.command.Look.{Look}
 use Rattle.bl_cli.specs.declared.command.Look.TheVariants as look
 use Rattle.bl_cli.specs.declared.status.Status.{Status}
-use Rattle.bl_cli.specs.Commands.{AsksFor, AsksToShow}
+use Rattle.bl_cli.specs.Commands.{AsksFor}
 use Rattle.bl_cli.specs.Ends.{IsOfHelp, IsOfLoad, IsOfScript, IsOfShow}
 use Rattle.bl_cli.specs.Runs.{IsEndOf, Keeps}
 use Rattle.bl_cli.specs.Stores.{IsUntouched}
-use Rattle.bl_cli.specs.Words.{AsksForLoad}
 
 -- the first word, or none
 abbrev some_number : ℕ → Option ℕ
@@ -25,6 +24,20 @@ some_number n = Some n
 head : List (List ℕ) → List ℕ
 head [] = []
 head (word ∷ words) = word
+
+-- the second letter, or 0
+second : List ℕ → ℕ
+second [] = 0
+second (letter ∷ []) = 0
+second (letter ∷ (next ∷ letters)) = next
+
+not_status : ¬ (codes "status" ≡ codes "script")
+unfolding second
+not_status is = let at : 116 ≡ 99 = ap second is in omega (arith, at)
+
+not_stream : ¬ (codes "stream" ≡ codes "script")
+unfolding second
+not_stream is = let at : 116 ≡ 99 = ap second is in omega (arith, at)
 
 first_word : Command → List ℕ
 first_word (command.Load load) = codes "load"
@@ -65,9 +78,9 @@ module _ {D : Type 0} (of : Ghosts D) (words : List (List ℕ)) where
 
   not_script : (what : Look) (turns : ℕ) → AsksFor words (command.Show what) → ¬ AsksFor words (command.Script turns)
   unfolding first_word
-  not_script look.Loads turns is asks = cc (same_first words (command.Show look.Loads) (command.Script turns) is asks)
-  not_script (look.Load id) turns is asks = cc (same_first words (command.Show (look.Load id)) (command.Script turns) is asks)
-  not_script (look.Page ask) turns is asks = cc (same_first words (command.Show (look.Page ask)) (command.Script turns) is asks)
+  not_script look.Loads turns is asks = not_status (same_first words (command.Show look.Loads) (command.Script turns) is asks)
+  not_script (look.Load id) turns is asks = not_status (same_first words (command.Show (look.Load id)) (command.Script turns) is asks)
+  not_script (look.Page ask) turns is asks = not_stream (same_first words (command.Show (look.Page ask)) (command.Script turns) is asks)
 
   not_help : (what : Look) → AsksFor words (command.Show what) → ¬ AsksFor words command.Help
   unfolding first_word
@@ -103,9 +116,9 @@ load_no_script words load turns is asks = cc (same_first words (command.Load loa
 
 pub show_no_script : (words : List (List ℕ)) (what : Look) (turns : ℕ) → AsksFor words (command.Show what) → ¬ AsksFor words (command.Script turns)
 unfolding first_word
-show_no_script words look.Loads turns is asks = cc (same_first words (command.Show look.Loads) (command.Script turns) is asks)
-show_no_script words (look.Load id) turns is asks = cc (same_first words (command.Show (look.Load id)) (command.Script turns) is asks)
-show_no_script words (look.Page ask) turns is asks = cc (same_first words (command.Show (look.Page ask)) (command.Script turns) is asks)
+show_no_script words look.Loads turns is asks = not_status (same_first words (command.Show look.Loads) (command.Script turns) is asks)
+show_no_script words (look.Load id) turns is asks = not_status (same_first words (command.Show (look.Load id)) (command.Script turns) is asks)
+show_no_script words (look.Page ask) turns is asks = not_stream (same_first words (command.Show (look.Page ask)) (command.Script turns) is asks)
 
 pub help_no_script : (words : List (List ℕ)) (turns : ℕ) → AsksFor words command.Help → ¬ AsksFor words (command.Script turns)
 unfolding first_word

@@ -1,8 +1,8 @@
 -- What options say together, and that each is given at most once.
-use Rattle.std.specs.Prelude.{◌≡◌, ◌≢◌, ◌<◌, ◌+◌, ℕ, suc, nat_eq, Bool, true, false, not, ◌||◌, cond, is_some, codes, unwrap_or, length, List, [], ◌∷◌, ◌++◌, Some, None, refl}
+use Rattle.std.specs.Prelude.{◌≡◌, ◌≢◌, ℕ, suc, nat_eq, Bool, true, false, not, ◌||◌, cond, is_some, codes, unwrap_or, List, [], ◌∷◌, Some, None, refl}
 use Rattle.std.specs.declared.option.Option.{Option}
 use Rattle.std.specs.Option.{option_and_then, option_or}
-use Rattle.std.specs.List.{All, AllPairs, flat_map, list_any}
+use Rattle.std.specs.List.{All, list_any}
 use Rattle.std.proofs.Common.{sym, ap, subst, ◌∙◌, arith, eqb-true, eq-eqb}
 use Rattle.std.proofs.lemmas.Option.{same_Some}
 use Rattle.std.proofs.lemmas.Bool.{or_parts, or_from}
@@ -11,13 +11,12 @@ use Rattle.std.proofs.lemmas.List.Kept.{AllPairs-cons}
 use Rattle.std.proofs.lemmas.Slice.Eq.{bytes_eq-Decides}
 use Rattle.bl_files.specs.Sources.{kept_source}
 use Rattle.bl_files.specs.declared.mode.Mode.{Mode}
-use Rattle.bl_files.specs.declared.mode.Mode.TheVariants.{New, Resume, Auto}
-use Rattle.bl_cli.specs.declared.asked.Asked.{Asked}
+use Rattle.bl_files.specs.declared.mode.Mode.TheVariants.{Auto}
 use Rattle.bl_cli.specs.declared.load_option.LoadOption.{LoadOption}
 use Rattle.bl_cli.specs.declared.load_option.LoadOption.TheVariants.{Mode as mode_option, KeepGoing, UpdateSingle, Changes}
 use Rattle.bl_cli.specs.declared.options.Options.{Options}
-use Rattle.bl_cli.specs.Words.{AreEachOnce, AskForNoLoad, AsksForLoad, is_changes, is_keep_going, is_update_single, kind_of, mode_in, option_words, request_by}
-use Rattle.bl_cli.specs.Options.{Reads, asked_by, is_given, is_word, nothing_given, take_option, take_options, with_option}
+use Rattle.bl_cli.specs.Words.{AreEachOnce, AskForNoLoad, AsksForLoad, is_changes, is_keep_going, is_update_single, kind_of, mode_in, request_by}
+use Rattle.bl_cli.specs.Options.{Reads, asked_by, is_given, is_word, nothing_given, take_options, with_option}
 
 abbrev Differ : LoadOption → LoadOption → Type 0
 Differ a b = kind_of a ≢ kind_of b

@@ -1,12 +1,12 @@
 -- Calls after calls.
-use Rattle.std.specs.Prelude.{◌≡◌, ◌⊎◌, ◌≤◌, ℕ, true, List, [], ◌∷◌, ◌++◌, None, Some, refl}
+use Rattle.std.specs.Prelude.{◌≡◌, ◌⊎◌, ◌≤◌, ℕ, true, List, [], ◌∷◌, ◌++◌, None, refl}
 use Rattle.std.specs.declared.option.Option.{Option}
-use Rattle.std.proofs.Common.{sym, ap, subst, ◌∙◌, inl, inr, ⊎_elim, arith, append_assoc}
+use Rattle.std.proofs.Common.{sym, subst, ◌∙◌, inl, inr, ⊎_elim, arith, append_assoc}
 use Rattle.std.proofs.lemmas.Bool.{true≢false}
 use Rattle.bl_outside.specs.Counts.{Rose}
 use Rattle.bl_outside.specs.declared.disk.Disk.{Ghosts}
 use Rattle.bl_outside.proofs.Moments.{then_runs, weaker}
-use Rattle.bl_journal.specs.Journals.{JournalRecord, Since}
+use Rattle.bl_journal.specs.Journals.{JournalRecord}
 use Rattle.bl_entry.specs.declared.entry.Entry.{Entry}
 use Rattle.bl_world.specs.Worlds.{World}
 use Rattle.bl_world.specs.States.{Appends, AreNew, Fails, Grows, IsNew, Settles, State, at_rest, unsure}

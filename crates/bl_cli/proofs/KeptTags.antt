@@ -13,7 +13,7 @@ use Rattle.bl_queue.specs.Changes.{IsSubmitted, new_job, trimmed}
 use Rattle.bl_queue.specs.Doomed.{IsDoomed, IsFate, IsSettled, LeadsToFailure, called_up, with_front}
 use Rattle.bl_queue.specs.Jobs.{Kept, is_unended, waits}
 use Rattle.bl_queue.specs.Limits.{most_kept}
-use Rattle.bl_queue.specs.Statuses.{has_ended, has_failed}
+use Rattle.bl_queue.specs.Statuses.{has_ended}
 use Rattle.bl_world.specs.LoadIds.{load_number}
 use Rattle.bl_load.specs.SameJobs.{Tag, tag_of}
 use Rattle.bl_cli.specs.Tags.{HasTaken}

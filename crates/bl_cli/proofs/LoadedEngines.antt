@@ -1,7 +1,7 @@
 -- A load over an engine, and its output.
-use Rattle.std.specs.Prelude.{◌≡◌, ◌⊎◌, ◌≤◌, ℕ, true, List, None, Some, Result, Ok, Err, IsErrOf, refl}
+use Rattle.std.specs.Prelude.{◌≡◌, ◌≤◌, ℕ, List, None, Result, Ok, Err, IsErrOf, refl}
 use Rattle.std.specs.declared.option.Option.{Option}
-use Rattle.std.proofs.Common.{sym, ap, subst, ◌∙◌, inl, inr, arith}
+use Rattle.std.proofs.Common.{subst, inl, inr, arith}
 use Rattle.bl_outside.specs.Counts.{HasDeviceCause, Rose}
 use Rattle.bl_outside.specs.Folders.{Files}
 use Rattle.bl_outside.specs.declared.disk.Disk.{Ghosts}
@@ -11,8 +11,6 @@ use Rattle.bl_queue.specs.declared.job.Job.{Job}
 use Rattle.bl_queue.specs.declared.job_status.JobStatus.{JobStatus}
 use Rattle.bl_engine.specs.Calls.{Handles}
 use Rattle.bl_engine.specs.Engines.{View}
-use Rattle.bl_engine.specs.declared.refusals.Trouble.{Trouble}
-use Rattle.bl_engine.specs.declared.refusals.Trouble.TheVariants as trouble
 use Rattle.bl_cli.specs.declared.asked.Asked.{Asked}
 use Rattle.bl_cli.specs.declared.load_fault.LoadFault.{LoadFault}
 use Rattle.bl_cli.specs.declared.load_fault.LoadFault.TheVariants as fault

@@ -1,5 +1,5 @@
 -- Turns, a submission, turns again, and the job that came of it.
-use Rattle.std.specs.Prelude.{◌≡◌, ℕ, ◌+◌, Bool, true, false, not, cond, List, [], ◌∷◌, map, Contains, None, Some, Result, Ok, Err, IfOk, IfErr, OnOk, IsErrOf, refl}
+use Rattle.std.specs.Prelude.{◌≡◌, ℕ, ◌+◌, Bool, true, false, not, cond, List, [], ◌∷◌, map, Contains, None, Some, Result, Ok, Err, IsErrOf, refl}
 use Rattle.std.specs.declared.option.Option.{Option}
 use Rattle.std.proofs.Common.{sym, ap, subst, ◌∙◌, inl, inr}
 use Rattle.std.proofs.lemmas.Bool.{true≢false}
@@ -25,14 +25,12 @@ use Rattle.bl_world.proofs.NextWorks.{idle_front}
 use Rattle.bl_chain.specs.Folders.{AreTablesOf}
 use Rattle.bl_chain.specs.MadeEntries.{IsMade}
 use Rattle.bl_engine.specs.Calls.{Handles, Reaches}
-use Rattle.bl_engine.specs.Attempts.{HasNoRoom}
 use Rattle.bl_engine.specs.Engines.{IsAt, View}
-use Rattle.bl_load.specs.Turns.{DrainsFull, DrainsOver, IsDrained, MayTurn}
+use Rattle.bl_load.specs.Turns.{DrainsFull, DrainsOver, MayTurn}
 use Rattle.bl_cli.specs.declared.load_fault.LoadFault.{LoadFault}
 use Rattle.bl_cli.specs.declared.load_fault.LoadFault.TheVariants as fault
-use Rattle.bl_cli.specs.LoadFaults.{IsOfStore, IsOfTurns, fault_trouble, trouble_of}
+use Rattle.bl_cli.specs.LoadFaults.{fault_trouble}
 use Rattle.bl_cli.specs.Loads.{DrainsAll, FindsLoad, IsLoadOf, LacksRoom, Makes, MayAppend, Submits}
-use Rattle.bl_cli.specs.Stores.{OfFiles}
 use Rattle.bl_cli.proofs.GrownTwice.{at_entries, drains_on, handles_after, no_room_wider, reaches_then}
 use Rattle.bl_cli.proofs.MadeLoads.{look_no_room, look_of_turns, of_files, told_files, turns_no_numbers, turns_of_store}
 

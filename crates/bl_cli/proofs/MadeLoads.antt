@@ -1,15 +1,13 @@
 -- A load that is made over an engine.
-use Rattle.std.specs.Prelude.{◌≡◌, ◌≢◌, ◌⊎◌, ◌+◌, ◌==◌, ℕ, nat_lt, nat_eq, Bool, true, false, not, cond, List, [], ◌∷◌, length, map, count_by, None, Some, Result, Ok, Err, IfOk, IfErr, OnOk, IsErrOf, refl}
+use Rattle.std.specs.Prelude.{◌≡◌, ◌+◌, ◌==◌, ℕ, nat_lt, Bool, true, false, not, cond, List, [], ◌∷◌, length, count_by, None, Some, Result, Ok, Err, IsErrOf, refl}
 use Rattle.std.specs.declared.option.Option.{Option}
 use Rattle.std.specs.Option.{option_map, option_or}
-use Rattle.std.specs.List.{Contains, All, find, sum_by}
-use Rattle.std.proofs.Common.{sym, ap, subst, ◌∙◌, inl, inr, ⊎_elim, arith}
-use Rattle.std.proofs.lemmas.Bool.{true≢false, eqb-true, eq-eqb}
+use Rattle.std.proofs.Common.{sym, ap, subst, ◌∙◌, inl, inr, arith}
+use Rattle.std.proofs.lemmas.Bool.{true≢false, eqb-true}
 use Rattle.std.proofs.lemmas.Option.{same_Some}
 use Rattle.bl_outside.specs.Folders.{Files}
 use Rattle.bl_outside.specs.declared.disk.Disk.{Ghosts}
 use Rattle.bl_files.specs.declared.load_request.LoadRequest.{LoadRequest}
-use Rattle.bl_files.proofs.Members.{first_member, later_member, no_member}
 use Rattle.bl_queue.specs.declared.job.Job.{Job}
 use Rattle.bl_queue.specs.declared.job_status.JobStatus.{JobStatus}
 use Rattle.bl_queue.specs.declared.job_status.JobStatus.TheVariants.{NotStarted, InQueue, InProgress, Completed, CancelledByUser, Failed, DependencyNotSatisfied}
@@ -17,19 +15,19 @@ use Rattle.bl_queue.specs.declared.check_refusal.CheckRefusal.{CheckRefusal}
 use Rattle.bl_queue.specs.declared.check_refusal.CheckRefusal.TheVariants as check
 use Rattle.bl_queue.specs.Checks.{busy, full, refusal, too_many, unknown, used_up}
 use Rattle.bl_queue.specs.Statuses.{has_ended, is_in_queue}
-use Rattle.bl_queue.specs.Jobs.{AreJobs, Kept, front_job, is_unended, job_with_id, number_in, waits}
+use Rattle.bl_queue.specs.Jobs.{AreJobs, Kept, front_job, is_unended, waits}
 use Rattle.bl_queue.proofs.FatedJobs.{count_cons}
 use Rattle.bl_entry.specs.declared.entry.Entry.{Entry}
 use Rattle.bl_entry.specs.declared.entry.Entry.TheVariants.{Submit}
 use Rattle.bl_world.specs.LoadIds.{load_number}
 use Rattle.bl_world.specs.Makings.{SubmitEntry, next_moment}
 use Rattle.bl_world.specs.States.{State, at_rest}
-use Rattle.bl_load.specs.SameJobs.{HasSameJobs, Tag, tag_of}
-use Rattle.bl_cli.specs.Tags.{HasTag, HasTaken}
+use Rattle.bl_load.specs.SameJobs.{HasSameJobs}
+use Rattle.bl_cli.specs.Tags.{HasTaken}
 use Rattle.bl_world.specs.Works.{work_of}
-use Rattle.bl_world.specs.Worlds.{IsKeptAfter, Step, World}
+use Rattle.bl_world.specs.Worlds.{IsKeptAfter, World}
 use Rattle.bl_world.specs.declared.work.Work.TheVariants.{Idle}
-use Rattle.bl_cli.proofs.KeptTags.{submitted_taken, tag_member}
+use Rattle.bl_cli.proofs.KeptTags.{submitted_taken}
 use Rattle.bl_world.proofs.NextWorks.{idle_front}
 use Rattle.bl_chain.specs.Folders.{AreTablesOf}
 use Rattle.bl_chain.specs.MadeEntries.{IsMade}
@@ -37,10 +35,9 @@ use Rattle.bl_engine.specs.Attempts.{Attempts}
 use Rattle.bl_engine.specs.Calls.{Handles}
 use Rattle.bl_engine.specs.Engines.{IsAt, Stays, View}
 use Rattle.bl_engine.specs.Findings.{Finds, SubmitFinds}
-use Rattle.bl_engine.specs.Outcomes.{Done, Full, Outcome, Refused, submit_outcome, trouble_in}
+use Rattle.bl_engine.specs.Outcomes.{Done, Full, submit_outcome, trouble_in}
 use Rattle.bl_engine.specs.declared.refusals.SubmitRefusal.{SubmitRefusal}
 use Rattle.bl_engine.specs.declared.refusals.SubmitRefusal.TheVariants as submit
-use Rattle.bl_engine.specs.declared.refusals.Trouble.{Trouble}
 use Rattle.bl_load.specs.OpenFiles.{IsFresh}
 use Rattle.bl_load.specs.Turns.{DrainsFull, DrainsOver, IsDrained}
 use Rattle.bl_load.specs.TurnFaults.{told_trouble}
@@ -49,8 +46,8 @@ use Rattle.bl_load.specs.declared.turn_fault.TurnFault.{TurnFault}
 use Rattle.bl_load.specs.declared.turn_fault.TurnFault.TheVariants as turn
 use Rattle.bl_cli.specs.declared.load_fault.LoadFault.{LoadFault}
 use Rattle.bl_cli.specs.declared.load_fault.LoadFault.TheVariants as fault
-use Rattle.bl_cli.specs.LoadFaults.{IsOfLook, IsOfStore, IsOfTurns, MayRefuse, TellsOf, fault_trouble, trouble_of, turn_fault_from}
-use Rattle.bl_cli.specs.Loads.{DrainsAll, FindsLoad, IsLoadOf, Makes, Submits}
+use Rattle.bl_cli.specs.LoadFaults.{IsOfLook, IsOfStore, IsOfTurns, MayRefuse, TellsOf, fault_trouble, turn_fault_from}
+use Rattle.bl_cli.specs.Loads.{DrainsAll, Submits}
 use Rattle.bl_cli.specs.Stores.{OfFiles}
 use Rattle.bl_cli.specs.Words.{IsPlain}
 use Rattle.bl_cli.proofs.GrownTwice.{breaks_drain, commits_drain}

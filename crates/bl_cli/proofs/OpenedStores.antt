@@ -1,5 +1,5 @@
 -- A load over a store that is opened, or can't be.
-use Rattle.std.specs.Prelude.{◌≡◌, ◌⊎◌, ◌+◌, ◌≤◌, ℕ, true, false, List, [], ◌∷◌, ◌++◌, None, Some, Result, Ok, Err, refl}
+use Rattle.std.specs.Prelude.{◌≡◌, ◌⊎◌, ◌≤◌, ℕ, true, List, [], ◌++◌, Some, Result, Ok, Err, refl}
 use Rattle.std.specs.declared.option.Option.{Option}
 use Rattle.std.proofs.Common.{sym, ap, subst, ◌∙◌, inl, inr, ⊎_elim, arith}
 use Rattle.std.proofs.lemmas.Bool.{true≢false}
@@ -10,16 +10,15 @@ use Rattle.bl_outside.specs.declared.disk.Disk.{Ghosts}
 use Rattle.bl_outside.specs.declared.disks.Disks.{Disks}
 use Rattle.bl_outside.proofs.Moments.{at_end, then_runs, weaker}
 use Rattle.bl_journal.specs.Frames.{AsBefore}
-use Rattle.bl_journal.specs.Journals.{JournalRecord}
 use Rattle.bl_queue.specs.declared.job.Job.{Job}
 use Rattle.bl_entry.specs.declared.entry.Entry.{Entry}
 use Rattle.bl_world.specs.States.{AreNew, Grows, State, at_rest}
 use Rattle.bl_world.specs.Worlds.{IsWorldOf, World}
 use Rattle.bl_chain.specs.Folders.{AreTablesOf}
 use Rattle.bl_chain.specs.MadeEntries.{IsMade}
-use Rattle.bl_engine.specs.Calls.{Drains, Reaches}
+use Rattle.bl_engine.specs.Calls.{Reaches}
 use Rattle.bl_engine.specs.Engines.{IsAt, View}
-use Rattle.bl_engine.specs.Images.{HasEntries, IsImageOf, IsLeft}
+use Rattle.bl_engine.specs.Images.{IsImageOf, IsLeft}
 use Rattle.bl_engine.specs.Openings.{IsTold, Judges, Opened, Opens, TroubleIs}
 use Rattle.bl_engine.specs.declared.refusals.Trouble.{Trouble}
 use Rattle.bl_engine.specs.declared.refusals.Trouble.TheVariants as trouble
@@ -32,9 +31,9 @@ use Rattle.bl_cli.specs.declared.status.Status.TheVariants as status
 use Rattle.bl_cli.specs.LoadFaults.{fault_from, status_of, status_trouble}
 use Rattle.bl_cli.specs.Loads.{LacksRoom}
 use Rattle.bl_cli.specs.Printing.{Adds, AddsFront}
-use Rattle.bl_cli.specs.Ends.{IsDone, IsOfLoad, IsQuiet, IsStatusOf, MayHaveBegun}
-use Rattle.bl_cli.specs.LoadRuns.{HasNoPlace, LoadRuns, LoadsOver, PrintsJob, PrintsLoad, WasMade}
-use Rattle.bl_cli.specs.Stores.{EndsBehind, HasGrown, IsOnTheWay, LeadsTo, OfFiles, RunsOver, WasFound}
+use Rattle.bl_cli.specs.Ends.{IsDone, IsOfLoad}
+use Rattle.bl_cli.specs.LoadRuns.{HasNoPlace, LoadRuns, LoadsOver, PrintsJob, PrintsLoad}
+use Rattle.bl_cli.specs.Stores.{EndsBehind, HasGrown, IsOnTheWay, LeadsTo, RunsOver}
 use Rattle.bl_cli.proofs.MadeLoads.{of_files, told_files}
 
 pub rose_later : (a b c : ℕ) → a ≤ b → Rose b c → Rose a c

@@ -2,15 +2,13 @@
 use Rattle.std.specs.Prelude.{◌≡◌, ◌≤◌, ◌⊎◌, ℕ, Bool, true, false, cond, codes, length, map, option_map, List, [], ◌∷◌, Some, None, refl}
 use Rattle.std.specs.declared.option.Option.{Option}
 use Rattle.std.proofs.Common.{inl, inr, sym, ap, subst, ◌∙◌, arith}
-use Rattle.std.proofs.lemmas.Option.{same_Some}
 use Rattle.bl_stream.specs.declared.page_ask.PageAsk.{PageAsk}
 use Rattle.bl_feed.specs.LoadBodies.{id_in}
-use Rattle.bl_cli.specs.declared.command.Command.{Command}
 use Rattle.bl_cli.specs.declared.command.Command.TheVariants as command
 use Rattle.bl_cli.specs.declared.command.Look.{Look}
 use Rattle.bl_cli.specs.declared.command.Look.TheVariants as look
 use Rattle.bl_feed.specs.Parameters.{number_in}
-use Rattle.bl_cli.specs.Commands.{AskForNothing, AsksFor, AsksForPage, AsksForScript, AsksToShow}
+use Rattle.bl_cli.specs.Commands.{AskForNothing, AsksForPage, AsksForScript, AsksToShow}
 use Rattle.bl_cli.specs.Options.{is_word}
 use Rattle.bl_cli.specs.Reading.{is_help, look_in, page_in, page_shown, script_in, status_in, turns_in}
 use Rattle.bl_cli.specs.Words.{AskForNoLoad}

@@ -1,13 +1,13 @@
 -- What a run comes to, whatever became of the line on the error output.
-use Rattle.std.specs.Prelude.{◌≡◌, ◌⊎◌, ℕ, true, is_some, List, None, Some, Result, Ok, Err, refl}
+use Rattle.std.specs.Prelude.{◌≡◌, ◌⊎◌, ℕ, List, Some, Err, refl}
 use Rattle.std.specs.declared.option.Option.{Option}
-use Rattle.std.proofs.Common.{inl, inr, ⊎_elim, subst, sym, ap, ◌∙◌}
+use Rattle.std.proofs.Common.{inl, inr, ⊎_elim, subst, sym, ◌∙◌}
 use Rattle.bl_outside.specs.Counts.{Rose}
 use Rattle.bl_outside.specs.Folders.{Files}
 use Rattle.bl_outside.specs.declared.disk.Disk.{Ghosts}
 use Rattle.bl_outside.specs.declared.disks.Disks.{Disks}
 use Rattle.bl_outside.proofs.Told.{content_told}
-use Rattle.bl_engine.specs.Images.{HasEntries, IsLeft}
+use Rattle.bl_engine.specs.Images.{IsLeft}
 use Rattle.bl_engine.specs.Openings.{IsTold, Judges, NeverBad}
 use Rattle.bl_cli.specs.declared.command.Command.{Command}
 use Rattle.bl_cli.specs.declared.command.Command.TheVariants as command
@@ -17,7 +17,7 @@ use Rattle.bl_cli.specs.Printing.{Adds, AddsFront, Written}
 use Rattle.bl_cli.specs.Ends.{HasLine, IsCalm, IsCalmEnd, IsDone, IsNothing, IsQuiet, IsUnasked, MayHaveBegun}
 use Rattle.bl_cli.specs.LoadRuns.{IsUsedUp}
 use Rattle.bl_cli.specs.Runs.{Answers, FindsNoRoom, FindsNothing, HasReported, HasScripted, IsBegun, IsCarriedOut, IsEndOf, IsScript, Keeps, OfWords, Reports}
-use Rattle.bl_cli.specs.ScriptRuns.{Input, Scripts}
+use Rattle.bl_cli.specs.ScriptRuns.{Input}
 use Rattle.bl_cli.specs.Statuses.{line_of}
 use Rattle.bl_cli.specs.Stores.{OfFiles}
 use Rattle.bl_cli.specs.Commands.{AskForNothing, AsksFor}

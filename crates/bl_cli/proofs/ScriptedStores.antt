@@ -1,7 +1,7 @@
 -- A script over a store that is opened, or can't be.
-use Rattle.std.specs.Prelude.{◌≡◌, ◌⊎◌, ◌≤◌, ℕ, true, List, None, Some, Result, Ok, Err, refl}
+use Rattle.std.specs.Prelude.{◌≡◌, ◌≤◌, ℕ, true, List, None, Some, Result, Ok, Err, refl}
 use Rattle.std.specs.declared.option.Option.{Option}
-use Rattle.std.proofs.Common.{sym, ap, subst, ◌∙◌, inl, inr, arith}
+use Rattle.std.proofs.Common.{sym, ap, subst, ◌∙◌, inl, inr}
 use Rattle.bl_outside.specs.Counts.{Rose}
 use Rattle.bl_outside.specs.Folders.{Files}
 use Rattle.bl_outside.specs.Sound.{IsSound}
@@ -11,7 +11,7 @@ use Rattle.bl_entry.specs.declared.entry.Entry.{Entry}
 use Rattle.bl_world.specs.States.{State, at_rest}
 use Rattle.bl_engine.specs.Engines.{IsAt, Stays, View}
 use Rattle.bl_engine.specs.Images.{IsLeft}
-use Rattle.bl_engine.specs.Openings.{IsTold, Judges, Opened, Opens, TroubleIs}
+use Rattle.bl_engine.specs.Openings.{Opened, Opens, TroubleIs}
 use Rattle.bl_engine.specs.declared.refusals.Trouble.{Trouble}
 use Rattle.bl_engine.specs.declared.refusals.Trouble.TheVariants as trouble
 use Rattle.bl_load.specs.Turns.{DrainsOver}
@@ -25,10 +25,10 @@ use Rattle.bl_cli.specs.declared.status.Status.{Status}
 use Rattle.bl_cli.specs.declared.status.Status.TheVariants as status
 use Rattle.bl_cli.specs.Ends.{IsOfScript}
 use Rattle.bl_cli.specs.LoadFaults.{fault_from, status_of}
-use Rattle.bl_cli.specs.ScriptRuns.{FindsBad, Input, IsPlayed, IsUnopened, LeavesEngine, ScriptRuns, Scripts, ScriptsOver, script_status}
-use Rattle.bl_cli.specs.Stores.{HasGrown, LeadsTo, OfFiles, RunsOver}
+use Rattle.bl_cli.specs.ScriptRuns.{Input, LeavesEngine, ScriptRuns, ScriptsOver, script_status}
+use Rattle.bl_cli.specs.Stores.{HasGrown, LeadsTo, RunsOver}
 use Rattle.bl_cli.proofs.MadeLoads.{of_files}
-use Rattle.bl_cli.proofs.OpenedStores.{bad_is, bad_judged, err_of, grown, leads_now, left_grown, left_untouched, no_write, opened_at, rose_later, store_is}
+use Rattle.bl_cli.proofs.OpenedStores.{bad_is, err_of, grown, leads_now, left_grown, left_untouched, no_write, rose_later, store_is}
 
 -- ---- statuses
 

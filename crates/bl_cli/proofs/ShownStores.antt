@@ -1,5 +1,5 @@
 -- What is shown of a store that is opened, or can't be.
-use Rattle.std.specs.Prelude.{◌≡◌, ◌⊎◌, ◌≤◌, ℕ, true, List, None, Some, Result, Ok, Err, refl}
+use Rattle.std.specs.Prelude.{◌≡◌, ◌≤◌, ℕ, true, List, Result, Ok, Err, refl}
 use Rattle.std.specs.declared.option.Option.{Option}
 use Rattle.std.proofs.Common.{sym, ap, subst, ◌∙◌, inl, inr, ⊎_elim, arith}
 use Rattle.std.proofs.lemmas.Bool.{true≢false}
@@ -10,23 +10,22 @@ use Rattle.bl_outside.specs.declared.disks.Disks.{Disks}
 use Rattle.bl_journal.specs.Frames.{AsBefore}
 use Rattle.bl_entry.specs.declared.entry.Entry.{Entry}
 use Rattle.bl_world.specs.States.{at_rest}
-use Rattle.bl_world.specs.Worlds.{IsWorldOf, World}
-use Rattle.bl_engine.specs.Calls.{Handles}
+use Rattle.bl_world.specs.Worlds.{IsWorldOf}
 use Rattle.bl_engine.specs.Engines.{IsAt, View}
-use Rattle.bl_engine.specs.Images.{IsImageOf, IsLeft}
-use Rattle.bl_engine.specs.Openings.{IsTold, Judges, Opens, TroubleIs}
+use Rattle.bl_engine.specs.Images.{IsImageOf}
+use Rattle.bl_engine.specs.Openings.{Opens, TroubleIs}
 use Rattle.bl_engine.specs.declared.refusals.Trouble.{Trouble}
 use Rattle.bl_engine.specs.declared.refusals.Trouble.TheVariants as trouble
 use Rattle.bl_engine.proofs.Settling.{stays_now}
 use Rattle.bl_cli.specs.declared.command.Look.{Look}
 use Rattle.bl_cli.specs.declared.status.Status.{Status}
 use Rattle.bl_cli.specs.declared.status.Status.TheVariants as status
-use Rattle.bl_cli.specs.Ends.{IsDone, IsNothing, IsOfShow, IsQuiet, MayHaveBegun}
+use Rattle.bl_cli.specs.Ends.{IsDone, IsNothing, IsOfShow}
 use Rattle.bl_cli.specs.LoadFaults.{fault_from, status_of, status_trouble}
 use Rattle.bl_cli.specs.Printing.{Adds, AddsFront, Written}
 use Rattle.bl_cli.specs.Shown.{IsAnswer, Tells, told}
-use Rattle.bl_cli.specs.Shows.{HasNothing, PrintsShown, PrintsText, PrintsTold, ShowRuns, ShowsOver}
-use Rattle.bl_cli.specs.Stores.{IsUntouched, LeadsTo, WasFound}
+use Rattle.bl_cli.specs.Shows.{PrintsShown, PrintsText, PrintsTold, ShowRuns, ShowsOver}
+use Rattle.bl_cli.specs.Stores.{IsUntouched, LeadsTo}
 use Rattle.bl_cli.proofs.OpenedStores.{bad_is, err_of, left_untouched, no_write, rose_later, store_is, undone}
 
 -- ---- over an engine

@@ -1,13 +1,12 @@
 -- Options with a value each, read from front to back, are those that are given.
-use Rattle.std.specs.Prelude.{◌≡◌, ◌≢◌, ◌<◌, ◌+◌, ◌==◌, ℕ, suc, nat_eq, Bool, true, false, not, ◌&&◌, cond, is_some, codes, length, List, [], ◌∷◌, ◌++◌, Some, None, Result, Ok, Err, refl}
+use Rattle.std.specs.Prelude.{◌≡◌, ◌≢◌, ℕ, suc, nat_eq, Bool, true, false, not, ◌&&◌, cond, is_some, codes, List, [], ◌∷◌, Some, None, Result, Ok, Err, refl}
 use Rattle.std.specs.declared.option.Option.{Option}
-use Rattle.std.specs.List.{All, AllPairs, flat_map}
+use Rattle.std.specs.List.{All, flat_map}
 use Rattle.std.proofs.Common.{sym, ap, subst, ◌∙◌, arith, eqb-true, eq-eqb}
 use Rattle.std.proofs.lemmas.Bool.{true≢false}
 use Rattle.std.proofs.lemmas.Option.{same_Some}
 use Rattle.std.proofs.lemmas.List.Elements.{All-nil, All-cons, All-head, All-tail}
 use Rattle.std.proofs.lemmas.List.Kept.{AllPairs-cons}
-use Rattle.std.proofs.lemmas.Slice.Eq.{bytes_eq-Decides}
 use Rattle.bl_stream.specs.declared.page_ask.PageAsk.{PageAsk}
 use Rattle.bl_feed.specs.Parameters.{page_asked}
 use Rattle.bl_feed.specs.declared.stream_parameter.StreamParameter.{StreamParameter}

@@ -1,6 +1,5 @@
 -- What an engine that is ready tells.
 use Rattle.std.specs.Prelude.{◌≡◌, ◌≤◌, ℕ, true, length, List, [], ◌∷◌, None, Some, Result, Ok, Err, IfOk, refl}
-use Rattle.std.specs.declared.option.Option.{Option}
 use Rattle.std.proofs.Common.{sym, ap, subst, ◌∙◌, arith}
 use Rattle.bl_outside.specs.declared.disk.Disk.{Ghosts}
 use Rattle.bl_change.specs.declared.event.Event.{Event}

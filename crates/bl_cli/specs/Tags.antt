@@ -4,7 +4,7 @@ use Rattle.bl_files.specs.declared.load_request.LoadRequest.{LoadRequest}
 use Rattle.bl_queue.specs.declared.job.Job.{Job}
 use Rattle.bl_queue.specs.Jobs.{Kept}
 use Rattle.bl_world.specs.LoadIds.{load_number}
-use Rattle.bl_load.specs.SameJobs.{Tag, tag_of}
+use Rattle.bl_load.specs.SameJobs.{tag_of}
 
 -- a job of this id is kept
 abbrev pub HasTag : List Job → ℕ → Type 0

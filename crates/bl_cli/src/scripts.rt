@@ -1,5 +1,5 @@
 // Requests that are answered over an engine.
-ghost use Rattle.std.specs.Prelude.{◌≡◌, true};
+ghost use Rattle.std.specs.Prelude.{◌≡◌};
 ghost use Rattle.bl_cli.specs.Ends.{IsOfScript};
 ghost use Rattle.bl_cli.specs.ScriptRuns.{
   LeavesEngine,
@@ -62,29 +62,30 @@ fn script_status(came: Result<ScriptEnd, SessionFault>) -> Status
     }
 }
 
-/// Answers the requests of the input over an engine, with up to so many turns behind each.
+/// Answers the requests of the input over an engine, with up to so many turns behind each, and hands
+/// the engine back.
 pub fn script_over<R: Threads + Sync, F: Folder, D: Disk, K: Clock, S: Source, O: Sink>(
     rt: &R,
     alloc: Global,
     turns: u64,
-    engine: &mut Engine<D>,
+    engine: Engine<D>,
     folder: &mut F,
     clock: &mut K,
     salt: u128,
     input: &mut S,
     out: &mut O,
-) -> Status
+) -> (Status, Engine<D>)
     ensures scripts { ScriptsOver ⟦<D as Disk>⟧ (F.files folder.old) salt turns
-        (input_of (S.left input.old) (S.faults input.old) (S.faults input.new) (F.faults folder.old)) engine.old engine.new (O.written out.old)
-        (O.written out.new) result }
+        (input_of (S.left input.old) (S.faults input.old) (S.faults input.new)
+        (F.faults folder.old)) engine result.1 (O.written out.old) (O.written out.new) result.0 }
     ensures leaves { LeavesEngine ⟦<D as Disk>⟧ (F.files folder.old)
-        (input_of (S.left input.old) (S.faults input.old) (S.faults input.new) (F.faults folder.old)) engine.old engine.new (O.faults out.old)
-        (O.faults out.new) result }
-    ensures ends { IsOfScript result }
+        (input_of (S.left input.old) (S.faults input.old) (S.faults input.new)
+        (F.faults folder.old)) engine result.1 (O.faults out.old) (O.faults out.new) result.0 }
+    ensures ends { IsOfScript result.0 }
     ensures files { F.files folder.new ≡ F.files folder.old }
 {
-    let came = run_script(
+    let (came, engine) = run_script(
         rt, alloc, engine, folder, clock, salt, &OpenGate, turns, input, out,
     );
-    script_status(came)
+    (script_status(came), engine)
 }

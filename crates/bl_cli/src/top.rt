@@ -229,20 +229,11 @@ fn script<R: Threads + Sync, F: Folder, D: Disk, K: Clock, S: Source, O: Sink>(
         (O.written out.new) (O.faults out.old) (O.faults out.new) result.0 }
     ensures files { F.files folder.new ≡ F.files folder.old }
 {
-    left_files_are_never_bad();
     match open_store(alloc, salt, disks) {
         Err((trouble, disks)) => (LoadFault::from(trouble).status(), disks),
-        Ok(mut engine) => {
-            let status = script_over(
-                rt,
-                alloc,
-                turns,
-                &mut engine,
-                folder,
-                clock,
-                salt,
-                input,
-                out,
+        Ok(engine) => {
+            let (status, engine) = script_over(
+                rt, alloc, turns, engine, folder, clock, salt, input, out,
             );
             // The world of a ready engine is one of entries.
             let _ = engine.is_ready();

@@ -1,4 +1,4 @@
-use Rattle.std.proofs.Common.{◌≡◌, ap, ◌∙◌}
+use Rattle.std.proofs.Common.{ap, ◌∙◌}
 use Rattle.bl_cli.proofs.FoundJobs.{finds_ok, never_unknown, view_err}
 use Rattle.bl_cli.proofs.loads.find_load.Goals as goal
 

@@ -1,4 +1,4 @@
-use Rattle.std.proofs.Common.{◌≡◌, ◌+◌, ◌≤◌, ◌++◌, List, ℕ, drop, length, nat_eq, subst, arith, refl}
+use Rattle.std.proofs.Common.{◌+◌, drop, length, nat_eq, subst, arith, refl}
 use Rattle.std.specs.List.{flat_map}
 use Rattle.bl_cli.specs.Outputs.{commit_lines, event_line, events_from}
 use Rattle.bl_cli.specs.Printing.{Leaves}

@@ -1,8 +1,8 @@
-use Rattle.std.proofs.Common.{◌≡◌, ◌+◌, ◌≤◌, ◌++◌, List, ℕ, drop, subst, arith, refl}
+use Rattle.std.proofs.Common.{◌+◌, drop, subst}
 use Rattle.std.specs.List.{flat_map}
 use Rattle.bl_cli.specs.Outputs.{change_lines, commit_lines, job_commits, own_lines}
 use Rattle.bl_cli.specs.Printing.{Leaves}
-use Rattle.bl_cli.proofs.Prints.{commits_more, front_left, leaves_less, on_err}
+use Rattle.bl_cli.proofs.Prints.{commits_more, front_left, on_err}
 use Rattle.bl_cli.proofs.printing.print_commits.Goals as goal
 
 pub returns-in_err-print_own-clause-front : goal.returns-in_err-print_own-clause-front

@@ -1,4 +1,4 @@
-use Rattle.std.proofs.Common.{◌++◌, [], subst}
+use Rattle.std.proofs.Common.{◌++◌, subst}
 use Rattle.bl_cli.specs.Outputs.{job_line, lines_if}
 use Rattle.bl_cli.specs.Printing.{Adds, AddsFront, Prints, PrintsFront, Written}
 use Rattle.bl_cli.proofs.Prints.{adds_both, front_both, front_first, on_err, on_err_map, on_ok_map}

@@ -1,4 +1,4 @@
-use Rattle.std.proofs.Common.{◌≡◌, ◌++◌, ◌∷◌, [], decimal, subst, ◌∙◌}
+use Rattle.std.proofs.Common.{◌++◌, ◌∷◌, [], subst, ◌∙◌}
 use Rattle.bl_outside.specs.Streams.{Puts}
 use Rattle.bl_cli.proofs.Prints.{puts_front_at, puts_then}
 use Rattle.bl_cli.proofs.status.put_place.Goals as goal

@@ -4,7 +4,7 @@ use Rattle.std.specs.String.{string_bytes}
 use Rattle.bl_cli.specs.declared.command.Command.TheVariants.{Script}
 use Rattle.bl_cli.specs.Commands.{AskForNothing, AsksFor}
 use Rattle.bl_cli.specs.ScriptRuns.{input_of}
-use Rattle.bl_cli.proofs.AnsweredWords.{answers_help, answers_load, answers_memory, answers_script, answers_show, answers_usage}
+use Rattle.bl_cli.proofs.AnsweredWords.{answers_help, answers_load, answers_script, answers_show, answers_usage}
 use Rattle.bl_cli.proofs.top.answer.Goals as goal
 
 pub returns-in-Ok-Some-Load-clause-answers : goal.returns-in-Ok-Some-Load-clause-answers
@@ -43,3 +43,9 @@ returns-in-Ok-Some-Help-clause-answers g c =
     (g.O.Sink.written c.args.out.now) (g.O.Sink.faults c.args.out.now) (g.O.Sink.written c.print.new.out) (g.O.Sink.faults c.print.new.out) c.print.result
     (subst (AsksFor (map string_bytes c.args.words.now)) c.in-Ok-Some-Help.field-0-0-is
     (subst (λ asked. MatchOption asked (AskForNothing (map string_bytes c.args.words.now)) (AsksFor (map string_bytes c.args.words.now))) c.in-Ok-Some-Help.field-0-is c.in-Ok-Some-Help.ensures.asked)) c.print.ensures
+
+pub returns-in-Ok-None-clause-answers : goal.returns-in-Ok-None-clause-answers
+returns-in-Ok-None-clause-answers g c =
+    answers_usage g.D.Disk (g.F.Folder.files c.args.folder.now) c.args.salt (map string_bytes c.args.words.now) (input_of (g.S.Source.left c.args.input.now) (g.S.Source.faults c.args.input.now) (g.S.Source.faults c.args.input.now) (g.F.Folder.faults c.args.folder.now)) g.met.D.Disk.only_now c.args.disks
+    (g.O.Sink.written c.args.out.now) (g.O.Sink.faults c.args.out.now)
+    (subst (λ asked. MatchOption asked (AskForNothing (map string_bytes c.args.words.now)) (AsksFor (map string_bytes c.args.words.now))) c.in-Ok-None.field-0-is c.in-Ok-None.ensures.asked)

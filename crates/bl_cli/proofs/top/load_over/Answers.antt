@@ -1,5 +1,5 @@
 use Rattle.std.proofs.Common.{sym, ap, subst, ◌∙◌}
-use Rattle.bl_cli.specs.LoadFaults.{print_fault_from, status_of}
+use Rattle.bl_cli.specs.LoadFaults.{status_of}
 use Rattle.bl_cli.specs.Outputs.{load_output}
 use Rattle.bl_cli.specs.Printing.{Adds, AddsFront, Written}
 use Rattle.bl_cli.specs.LoadRuns.{LoadsOver}

@@ -14,7 +14,7 @@ returns-in-Err-clause-runs g c =
 pub returns-in-Ok-clause-runs : goal.returns-in-Ok-clause-runs
 returns-in-Ok-clause-runs g c =
     let input = input_of (g.S.Source.left c.args.input.now) (g.S.Source.faults c.args.input.now) (g.S.Source.faults c.script_over-status.new.input) (g.F.Folder.faults c.args.folder.now) in
-    opened_script g.D.Disk (g.F.Folder.files c.args.folder.now) c.args.salt c.args.turns input c.args.disks c.into_disks.result c.in-Ok.engine c.script_over-status.new.engine c.in-Ok.ensures.opens c.in-Ok.ensures.ready c.in-Ok.ensures.slots
+    opened_script g.D.Disk (g.F.Folder.files c.args.folder.now) c.args.salt c.args.turns input c.args.disks c.into_disks.result c.in-Ok.engine c.script_over-status.result.1 c.in-Ok.ensures.opens c.in-Ok.ensures.ready c.in-Ok.ensures.slots
     (λ ready. c.is_ready.ensures.at (c.is_ready.ensures.ready ∙ ready)) c.into_disks.ensures.journal c.into_disks.ensures.left c.into_disks.ensures.right
-    (g.O.Sink.written c.args.out.now) (g.O.Sink.written c.script_over-status.new.out) (g.O.Sink.faults c.args.out.now) (g.O.Sink.faults c.script_over-status.new.out) c.script_over-status.result
+    (g.O.Sink.written c.args.out.now) (g.O.Sink.written c.script_over-status.new.out) (g.O.Sink.faults c.args.out.now) (g.O.Sink.faults c.script_over-status.new.out) c.script_over-status.result.0
     c.script_over-status.ensures.scripts c.script_over-status.ensures.leaves c.script_over-status.ensures.ends

@@ -1,4 +1,4 @@
-use Rattle.std.proofs.Common.{◌≡◌, ◌++◌, subst, sym, ◌∙◌, ap}
+use Rattle.std.proofs.Common.{◌++◌, subst, sym, ◌∙◌, ap}
 use Rattle.bl_outside.specs.Streams.{Puts}
 use Rattle.bl_cli.specs.Statuses.{line_of, place_behind, plain_line}
 use Rattle.bl_cli.proofs.Prints.{line_parts, puts_front_at, puts_then}
