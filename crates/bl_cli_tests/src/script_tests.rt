@@ -181,7 +181,7 @@ fn a_stream_that_fails_ends_a_script(rt: HostRuntime) {
         a_stream_fails(&rt, alloc, fails, read, "", "bl: read fault\n");
     }
     let fails = Failing {
-        input: 4,
+        input: 3,
         ..NOTHING
     };
     a_stream_fails(&rt, alloc, fails, read, TAKEN_ON, "bl: read fault\n");
