@@ -7,6 +7,8 @@ mod clock_tests;
 #[cfg(test)]
 mod fault_tests;
 #[cfg(test)]
+mod refusal_tests;
+#[cfg(test)]
 mod resume_tests;
 #[cfg(test)]
 mod run_tests;

@@ -21,6 +21,10 @@ const TAKEN_ON: &str =
 const LISTED: &str =
     "HTTP/1.1 200 OK\r\ncontent-type: application/json\r\ncontent-length: 82\r\n\r\n{\"payload\":{\"loadIds\":[\"00000000-0000-4000-8000-000000000001\"]},\"status\":\"200 OK\"}";
 
+// That reply and a half of the next one, which is as much as a sink in memory writes where it fails.
+const TAKEN_ON_AND_HALF: &str =
+    "HTTP/1.1 200 OK\r\ncontent-type: application/json\r\ncontent-length: 79\r\n\r\n{\"payload\":{\"loadId\":\"00000000-0000-4000-8000-000000000001\"},\"status\":\"200 OK\"}HTTP/1.1 200 OK\r\ncontent-type: application/json\r\ncontent-length: 82\r\n\r\n{\"pay";
+
 const NONE_LISTED: &str =
     "HTTP/1.1 200 OK\r\ncontent-type: application/json\r\ncontent-length: 44\r\n\r\n{\"payload\":{\"loadIds\":[]},\"status\":\"200 OK\"}";
 
@@ -187,7 +191,14 @@ fn a_stream_that_fails_ends_a_script(rt: HostRuntime) {
     a_stream_fails(&rt, alloc, fails, read, TAKEN_ON, "bl: read fault\n");
     let fails = Failing { out: 2, ..NOTHING };
     let write = Status::WriteFault;
-    a_stream_fails(&rt, alloc, fails, write, TAKEN_ON, "bl: write fault\n");
+    a_stream_fails(
+        &rt,
+        alloc,
+        fails,
+        write,
+        TAKEN_ON_AND_HALF,
+        "bl: write fault\n",
+    );
 }
 
 // The call of the journal of this number fails: the script goes on, each request has a reply, and

@@ -46,16 +46,25 @@ fn disks<R: Abort>(rt: &R, alloc: Global) -> Disks<MemoryDisk> {
     }
 }
 
-fn opened<R: Abort, L: Ledger>(rt: &R, alloc: Global, blank: Blank) -> Engine<MemoryDisk>
+fn opened<L: Ledger>(
+    alloc: Global,
+    disks: Disks<MemoryDisk>,
+    blank: Blank,
+) -> Option<Engine<MemoryDisk>>
     requires name { blank.name ≡ L.name }
     requires parts { blank.parts ≡ L.parts }
     requires some { 0 < blank.parts }
 {
     let mut steps = Steps::<L>::new(blank);
-    match Engine::open_counted(alloc, 0, disks(rt, alloc), &mut steps) {
-        Ok(engine) => engine,
-        Err(_) => panic!(rt; "an empty store is opened"),
+    match Engine::open_counted(alloc, 0, disks, &mut steps) {
+        Ok(engine) => Some(engine),
+        Err(_) => None,
     }
+}
+
+// An engine over an empty store.
+fn new_engine(alloc: Global, disks: Disks<MemoryDisk>) -> Option<Engine<MemoryDisk>> {
+    opened::<Brand>(alloc, disks, Blank::new(1))
 }
 
 fn folder<R: Abort>(rt: &R, alloc: Global) -> MemoryFolder {
@@ -74,7 +83,7 @@ fn ends<R: Threads + Sync + Abort>(
     input_fails: u64,
     out_fails: u64,
 ) -> (Result<ScriptEnd, SessionFault>, Text) {
-    let engine = opened::<R, Brand>(rt, alloc, Blank::new(1));
+    let engine = new_engine(alloc, disks(rt, alloc)).expect(rt, "an empty store is opened");
     let mut folder = folder(rt, alloc);
     let mut clock = FixedClock::new(0);
     let requests = text(rt, alloc, requests.as_bytes());
@@ -118,5 +127,6 @@ fn a_stream_that_fails_ends_it(rt: HostRuntime) {
     assert!(rt; out.is_empty());
     let (came, out) = ends(&rt, alloc, REQUESTS, 0, 2);
     assert!(rt; came == Err(SessionFault::WriteFault));
-    assert!(rt; out.as_slice() == TAKEN_ON);
+    assert!(rt; out.as_slice().starts_with(TAKEN_ON));
+    assert!(rt; !out.as_slice().ends_with(b"}"));
 }
