@@ -11,6 +11,7 @@ use bl_outside::{Disks, FixedClock};
 use bl_system::{FileDisk, ReadSource, RealFolder, WriteSink};
 use std::alloc::{AllocError, Global};
 use std::env;
+use std::fs::File;
 use std::io::ErrorKind;
 use std::process::ExitCode;
 use std::thread::Threads;
@@ -119,7 +120,16 @@ fn refuse(rt: HostRuntime, status: Status) -> Status {
     }
 }
 
+// A file of the null device, where there is one.
+fn null_device(rt: &HostRuntime) -> Option<File> {
+    File::open(rt, "/dev/null").ok()
+}
+
+// A standard stream that the caller closed leaves its number to the file that is opened next. Files
+// of the null device take these numbers first, so that none is given to a file of the store, over
+// which the output would be written.
 fn main(rt: HostRuntime) -> ExitCode {
+    let _held = [null_device(&rt), null_device(&rt), null_device(&rt)];
     let status = match arguments(&rt) {
         Ok(words) => match run_real(&rt, rt, &words) {
             Ok(status) => status,
