@@ -130,3 +130,71 @@ fn a_stream_that_fails_ends_it(rt: HostRuntime) {
     assert!(rt; out.as_slice().starts_with(TAKEN_ON));
     assert!(rt; !out.as_slice().ends_with(b"}"));
 }
+
+// A head that is refused has its reply, which closes: the request behind it isn't answered.
+fn closes<R: Threads + Sync + Abort>(
+    rt: &R,
+    alloc: Global,
+    head: &str,
+    first: &str,
+    code: &str,
+    message: &str,
+) {
+    let body = format!(in alloc; "{{\"code\":\"{code}\",\"detailedMessage\":\"{message}\"}}");
+    let body = body.expect(rt, "memory");
+    let length = body.len();
+    let reply = format!(in alloc;
+        "HTTP/1.1 {first}\r\ncontent-type: application/json\r\ncontent-length: {length}\r\nconnection: close\r\n\r\n{body}"
+    );
+    let reply = reply.expect(rt, "memory");
+    let requests = format!(in alloc; "{head}GET /loader HTTP/1.1\r\n\r\n").expect(rt, "memory");
+    let (came, out) = ends(rt, alloc, requests.as_str(), 0, 0);
+    assert!(rt; came == Ok(ScriptEnd::Drained(None)), "{head}");
+    assert!(rt; out.as_slice() == reply.as_bytes(), "{head}");
+}
+
+// A head, the first line of its reply, and the code and message.
+type Refused = (&'static str, &'static str, &'static str, &'static str);
+
+const REFUSED: [Refused; 4] = [
+    (
+        "\u{1}\r\n\r\n",
+        "400 Bad Request",
+        "BadHead",
+        "the request head can not be read",
+    ),
+    (
+        "GET /loader HTTP/1.1\r\ncontent-length: x\r\n\r\n",
+        "400 Bad Request",
+        "BadLength",
+        "content-length is not one number",
+    ),
+    (
+        "POST /loader HTTP/1.1\r\ncontent-length: 1048577\r\n\r\n",
+        "413 Payload Too Large",
+        "BodyTooLarge",
+        "the body has more than 1048576 bytes",
+    ),
+    (
+        "GET /loader HTTP/1.1\r\ntransfer-encoding: chunked\r\n\r\n",
+        "501 Not Implemented",
+        "TransferEncoding",
+        "transfer-encoding is not supported",
+    ),
+];
+
+#[test]
+fn a_head_that_is_refused_is_the_last(rt: HostRuntime) {
+    let alloc = rt.alloc();
+    for (head, first, code, message) in &REFUSED {
+        closes(&rt, alloc, head, first, code, message);
+    }
+    let mut large = String::from_str(alloc, "GET /loader HTTP/1.1\r\n").expect(&rt, "memory");
+    for _ in 0..65u64 {
+        large.push_str("a: b\r\n").expect(&rt, "memory");
+    }
+    large.push_str("\r\n").expect(&rt, "memory");
+    let first = "431 Request Header Fields Too Large";
+    let message = "the request head is too large";
+    closes(&rt, alloc, large.as_str(), first, "HeadTooLarge", message);
+}
